@@ -1,28 +1,37 @@
+-- Of any system: runs, passing, faults, the order of traces.
 pub mod Runs
 pub mod Passing
+pub mod Faults
+pub mod Ordering
+-- Joins of systems, and demand 3 over them.
 pub mod Bisimilar
 pub mod Joining
 pub mod Grouping
-pub mod Faults
+pub mod Assume
+-- Of tables, which are finite: what is decided, and demand 3 over tables.
 pub mod Deciding
 pub mod Tables
-pub mod Ordering
+pub mod Joins
+-- Lists numbered as found, and the normal form.
 pub mod Places
 pub mod Numbering
-pub mod Nodes
-pub mod Unique
 pub mod Finding
+pub mod Nodes
 pub mod Forms
-pub mod Closed
-pub mod Testing
-pub mod Judging
-pub mod Cases
+-- The product of nodes and flow states, and where faults show.
 pub mod Short
 pub mod Product
+pub mod Closed
 pub mod PairFaults
+pub mod Settled
+-- The right verdict: at most one, and always one.
+pub mod Unique
+pub mod Testing
 pub mod Words
+pub mod Judging
 pub mod Collect
 pub mod Total
-pub mod Joins
+-- The watchdog, and the order's cases.
 pub mod Watching
-pub mod Settled
+pub mod Watched
+pub mod Cases

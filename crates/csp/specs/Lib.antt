@@ -1,4 +1,5 @@
--- In the order a newcomer would read them.
+-- In the order a newcomer would read them: what is seen of a system, when a flow passes, what a fault is and which one is
+-- reported; tables and their joins; normal form, verdict and watchdog; the order's own cases.
 pub mod Lts
 pub mod Pass
 pub mod Fault
