@@ -21,6 +21,7 @@ pub mod Short
 pub mod Product
 pub mod PairFaults
 pub mod Words
+pub mod Codes
 pub mod Collect
 pub mod Total
 pub mod Joins
