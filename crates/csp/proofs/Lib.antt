@@ -28,6 +28,7 @@ pub mod Settled
 pub mod Unique
 pub mod Testing
 pub mod Words
+pub mod Codes
 pub mod Judging
 pub mod Collect
 pub mod Total
