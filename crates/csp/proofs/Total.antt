@@ -1,30 +1,26 @@
 -- Of two tables that fit: a pass or a first fault, never both.
-use mathlib.Core.Path.{_≡_, _∙_, subst}
+use mathlib.Core.Path.{subst}
 use mathlib.Core.Logic.{_⊎_, inl, inr}
 use mathlib.Core.List.{List}
 use Prim.Native.Nat.{ℕ, suc, _<_, _≤_, _*_}
 use native.Mathlib.Omega.{arith}
-use native.Mathlib.Decide.{ℕ-discrete, decLt}
 use lib.ListN.{length}
-use Rattle.csp.specs.Lts.{After}
 use Rattle.csp.specs.Pass.{Passes}
 use Rattle.csp.specs.Fault.{Fault, of-trace, of-refusal, RefusalFault}
 use Rattle.csp.specs.Order.{First}
 use Rattle.csp.specs.Table.{Table, lts, Fits}
-use Rattle.sets.specs.Sets.{Has, Holds}
 use Rattle.sets.specs.Least.{NoHigher}
-use Rattle.csp.specs.Numbered.{At, lower}
+use Rattle.csp.specs.Numbered.{lower}
 use Rattle.csp.specs.Normal.{NormalForm}
 use Rattle.csp.specs.Verdict.{Verdict, passes, trace-fault, refusal-fault, Met, MetPairs, LeastOffers, Right, right-pass, right-trace, right-refusal}
 use Rattle.csp.proofs.Ordering.{upto-trans}
-use Rattle.csp.proofs.Tables.{pass-iff, run?, stays-below}
+use Rattle.csp.proofs.Tables.{pass-iff, stays-below}
 use Rattle.sets.proofs.Laws.{holds-only}
-use Rattle.sets.proofs.Masks.{mask, mask-holds}
-use Rattle.csp.proofs.Places.{at-below, at-only, at-get}
+use Rattle.csp.proofs.Places.{at-below}
 use Rattle.csp.proofs.Collect.{collect, Lowest, lowest}
 use Rattle.csp.proofs.Forms.{form-exists}
 use Rattle.csp.proofs.Testing.{Word}
-use Rattle.csp.proofs.Judging.{fault?, fault-flow, run-word, refusal?, refusal-below, offer-set, offer-set-is}
+use Rattle.csp.proofs.Judging.{met?, fault?, fault-flow, run-word, refusal?, refusal-below, offer-set, offer-set-is}
 use Rattle.csp.proofs.Product.{met-short}
 use Rattle.csp.proofs.PairFaults.{fault-short, first-fault-short}
 use Rattle.csp.proofs.Words.{Least, least-word}
@@ -80,28 +76,8 @@ right-short m flow rule fi fs nodes N _ (right-refusal {s = s} h c b) =
 
 -- Whether a pair is met, and by which trace.
 module _ (flow rule : Table) (fi : Fits flow) (fs : Fits rule) (nodes : List ℕ) (N : NormalForm rule nodes) where
-  met? : (i q : ℕ) (u : List ℕ) → Dec (Met flow rule nodes u i q)
-  met? i q u = go (decLt i (length nodes)) (run? flow fi u (flow .start) q)
-    where
-      set : ℕ
-      set = mask (rule .n) (After (lts rule) u) (λ x. run? rule fs u (rule .start) x)
-
-      set-is : Holds Has set (After (lts rule) u)
-      set-is =
-          mask-holds (rule .n) (After (lts rule) u) (λ x. run? rule fs u (rule .start) x) (λ x r. stays-below rule fs r (fs .start-below))
-
-      at-set : (a : ℕ) → At nodes i a → After (lts flow) u q → Dec (set ≡ a) → Dec (Met flow rule nodes u i q)
-      at-set a at r (yes e) =
-          yes (record { node = a; at = at; holds = subst (λ (x : ℕ). Holds Has x (After (lts rule) u)) e set-is; run = r })
-      at-set a at r (no k) = no (λ v. k (holds-only set (v .node) set-is (v .holds) ∙ at-only (v .at) at))
-
-      go : Dec (i < length nodes) → Dec (After (lts flow) u q) → Dec (Met flow rule nodes u i q)
-      go (no h) d = no (λ v. h (at-below (v .at)))
-      go (yes h) (no k) = no (λ v. k (v .run))
-      go (yes h) (yes r) = at-set (at-get nodes i h .0) (at-get nodes i h .1) r (ℕ-discrete set (at-get nodes i h .0))
-
   some-met? : (i q : ℕ) → Dec ((u : List ℕ) × Met flow rule nodes u i q)
-  some-met? i q = go (least-word (flow .E) (length nodes * flow .n) (λ u. Met flow rule nodes u i q) (met? i q))
+  some-met? i q = go (least-word (flow .E) (length nodes * flow .n) (λ u. Met flow rule nodes u i q) (met? flow rule fi fs nodes i q))
     where
       go :
           Least (flow .E) (length nodes * flow .n) (λ u. Met flow rule nodes u i q) ⊎

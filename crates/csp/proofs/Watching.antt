@@ -65,7 +65,7 @@ module _ (flow rule : Table) (fi : Fits flow) (fs : Fits rule) (sameE : flow .E 
       bad
       refl
       (s ++ (e ∷ []))
-      (pair→trace-fault flow rule fi fs nodes N (record {
+      (pair→trace-fault flow rule nodes N (record {
         i = w;
         q = q;
         met = g;
@@ -128,7 +128,7 @@ module _ (flow rule : Table) (fi : Fits flow) (fs : Fits rule) (sameE : flow .E 
       (λ x. Beside flow rule nodes (x .0) (x .1))
       (λ x y e i m. keep m i)
       (c .run)
-      (good [] (Product.first-met flow rule fs nodes N)))
+      (good [] (Product.first-met flow rule nodes N)))
 
   -- what the product does the joined watchdog does
   watch-move :
@@ -147,7 +147,7 @@ module _ (flow rule : Table) (fi : Fits flow) (fs : Fits rule) (sameE : flow .E 
   pub fault→cry :
       (s : List ℕ) → TraceFault (lts flow) (lts rule) s → Can (join (watchdog rule nodes) (lts flow) (upTo (rule .E))) (suc (rule .E))
   fault→cry s f =
-      let b = trace-fault→pair flow rule fi fs nodes N f in
+      let b = trace-fault→pair flow rule fs nodes N f in
       let o = b .offers in
       let z : 0 < suc (rule .E) = omega arith in
       record {
