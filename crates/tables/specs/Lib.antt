@@ -1,0 +1,12 @@
+-- In the order a newcomer would read them.
+pub mod Numbers
+pub mod Tests
+pub mod Moves
+pub mod Order
+pub mod Bytes
+pub mod Valid
+pub mod State
+pub mod Answers
+pub mod Writer
+pub mod Reader
+pub mod Seek

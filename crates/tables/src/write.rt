@@ -1,0 +1,42 @@
+// The writer.
+ghost use mathlib.Core.Path.{_≡_};
+ghost use Prim.Native.Nat.{_+_, _*_, _/_, _%_, _≤_};
+ghost use lib.ListN.{length};
+ghost use Rattle.tables.specs.Numbers.{over};
+ghost use Rattle.tables.specs.Answers.{builtSays};
+ghost use Rattle.tables.specs.Bytes.{encoded};
+ghost use Rattle.tables.specs.Writer.{tableFrom, writes};
+use crate::answer::Built;
+use crate::answer::Refusal;
+use crate::answer::Test;
+use crate::listed;
+use crate::num::put_all;
+use crate::num::wide16;
+
+// Puts the header, and the moves into the rest of the buffer.
+fn put_table(n: u16, e: u16, start: u16, list: &[u16], out: &mut [u8])
+    requires { ⌜ (12 + 2 * length (now list) ≤ length (now out)) × ((length (now list) / 3 ≤ 4096) × (length (now list) % 3 ≡ 0)) ⌝ }
+    ensures { λ r. ⌜ now (out .exit) ≡ over (encoded (tableFrom n e start (now (list .entry)))) (now (out .entry)) ⌝ }
+{
+    let m = (list.len() / 3) as u16;
+    let header = [n, e, start, m, 12, 0];
+    put_all(out, &header);
+    put_all(&mut out[12..], list);
+}
+
+// Writes the table of n, e, start and a list of moves.
+pub fn write(n: u16, e: u16, start: u16, list: &[u16], out: &mut [u8]) -> Built
+    ensures answer { λ r. ⌜ builtSays r ≡ writes n e start (now (list .entry)) (now (out .entry)) .says ⌝ }
+    ensures buffer { λ r. ⌜ now (out .exit) ≡ writes n e start (now (list .entry)) (now (out .entry)) .out ⌝ }
+{
+    let found = listed::test(wide16(n), wide16(e), wide16(start), list);
+    if let Test::Refuses(k) = found {
+        return Built::Refused(Refusal::Rule(k));
+    }
+    let size = 12 + 2 * list.len();
+    if out.len() < size {
+        return Built::Refused(Refusal::Call(18));
+    }
+    put_table(n, e, start, list, out);
+    Built::Wrote(size)
+}
