@@ -32,7 +32,9 @@ pub mod Codes
 pub mod Judging
 pub mod Collect
 pub mod Total
--- The watchdog, and the order's cases.
+-- The watchdog.
 pub mod Watching
 pub mod Watched
-pub mod Cases
+-- Tests of joins and watchdogs.
+pub mod JudgingJoins
+pub mod JudgingWatchdogs

@@ -1,5 +1,5 @@
 -- In the order a newcomer would read them: what is seen of a system, when a flow passes, what a fault is and which one is
--- reported; tables and their joins; normal form, verdict and watchdog; the order's own cases.
+-- reported; tables and their joins; normal form, verdict and watchdog.
 pub mod Lts
 pub mod Pass
 pub mod Fault
@@ -12,4 +12,4 @@ pub mod Numbered
 pub mod Normal
 pub mod Verdict
 pub mod Watchdog
-pub mod Cases
+pub mod Stage

@@ -1,19 +1,20 @@
 -- The bytes of a table denote it, and a good table is the bytes of what it denotes.
 use Prim.Native.Nat.{ℕ, suc, _<_, _≤_, _+_, _*_, _/_, _%_}
 use mathlib.Core.Path.{_≡_, refl, sym, ap, ap₂, _∙_, subst}
-use mathlib.Core.List.{List, [], _∷_}
+use mathlib.Core.List.{List, [], _∷_, List·Memᴰ, List·Memᴰ·head, List·Memᴰ·tail}
 use native.Mathlib.Omega.{arith}
 use lib.ListN.{length, drop, getD, length-drop}
 use lib.Seq.{drop-drop, getD-drop, take-all}
-use Rattle.csp.specs.Table.{Move, Table, move}
+use Rattle.csp.specs.Table.{Move, Table}
 use Rattle.tables.specs.Numbers.{num, numbers, bytes, AllBytes}
 use Rattle.tables.specs.Moves.{moveAt, listed}
 use Rattle.tables.specs.Bytes.{states, events, start, count, moveOf, row, tableOf, threes, encoded}
 use Rattle.tables.specs.Valid.{refusal}
 use Rattle.tables.specs.Reader.{listOf}
 use Rattle.tables.specs.declared.answer.Test.the-variants.{Clear}
-use Rattle.tables.proofs.Coded.{length-bytes, length-numbers, number-at}
+use Rattle.tables.proofs.Coded.{length-bytes, number-at, Sixteen, none, more, bytes-small}
 use Rattle.tables.proofs.Rows.{same-move, row-same, row-length, threes-row, length-threes, row-threes}
+use Rattle.tables.proofs.Named.{Named}
 use Rattle.tables.proofs.Tested.{Good, good-clear}
 use Rattle.tables.proofs.Writing.{length-encoded}
 use Rattle.tables.proofs.Reading.{length-list}
@@ -101,12 +102,41 @@ module _ (t : Table) where
         long = omega (arith, length-encoded t);
         limits = row-within _ _ _ _ _ p;
         frame = record { offset = framed .0; last = framed .1; size = omega (arith, length-encoded t, count-is) };
-        starts = p .fits .start-below;
         moves = row-sound _ _ _ _ _ p;
       }
 
   pub encoded-clear : Proper t → refusal (encoded t) ≡ Clear
   encoded-clear g = good-clear (encoded t) (encoded-good g)
+
+threes-small : (n E : ℕ) (l : List Move) → n ≤ 1024 → E ≤ 63 → ((v : Move) → List·Memᴰ v l → Named n E v) → Sixteen (threes l)
+unfolding threes
+threes-small n E [] a b h = none
+threes-small n E (v ∷ l) a b h =
+    let g = h v (List·Memᴰ·head refl) in
+    more (v .from) (omega (arith, g .from))
+    (more (v .event) (omega (arith, g .event))
+    (more (v .to) (omega (arith, g .to)) (threes-small n E l a b (λ w i. h w (List·Memᴰ·tail i)))))
+
+-- header and moves, as one row of numbers
+pub encoded-numbers : (t : Table) →
+    encoded t ≡ bytes (t .n ∷ t .E ∷ t .start ∷ length (t .moves) ∷ 12 ∷ 0 ∷ threes (t .moves))
+unfolding encoded bytes
+encoded-numbers t = refl
+
+-- The bytes of a proper table are bytes.
+pub encoded-bytes : (t : Table) → Proper t → AllBytes (encoded t)
+encoded-bytes t g =
+    let w = g .limits in
+    let f = g .fits in
+    let l : Sixteen (threes (t .moves)) =
+    threes-small (t .n) (t .E) (t .moves) (w .states) (w .events)
+    (λ v i. record { from = f .from-below i; event = f .event-upto i; to = f .to-below i }) in
+    rw (encoded-numbers t)
+    (bytes-small _
+    (more (t .n) (omega arith)
+    (more (t .E) (omega arith)
+    (more (t .start) (omega (arith, f .start-below))
+    (more (length (t .moves)) (omega arith) (more 12 (omega arith) (more 0 (omega arith) l)))))))
 
 number-step : (t : List ℕ) (k : ℕ) → k + 2 ≤ length t → numbers (drop k t) ≡ num t k ∷ numbers (drop (k + 2) t)
 unfolding numbers
@@ -145,8 +175,7 @@ module _ (t : List ℕ) (g : Good t) where
 
   -- A good table is the bytes of the table that it denotes.
   pub encoded-again : AllBytes t → encoded (tableOf t) ≡ t
-  unfolding encoded
   encoded-again b =
       let e : (states t ∷ events t ∷ start t ∷ length (tableOf t .moves) ∷ 12 ∷ 0 ∷ threes (tableOf t .moves)) ≡ numbers t =
       cc (header-list t (g .long), row-length (moveOf t) (count t), list-numbers, g .frame .offset, g .frame .last) in
-      ap bytes e ∙ bytes-numbers t b (omega (arith, g .frame .size))
+      encoded-numbers (tableOf t) ∙ ap bytes e ∙ bytes-numbers t b (omega (arith, g .frame .size))

@@ -5,6 +5,7 @@ pub mod Splice
 pub mod Coded
 pub mod Rows
 pub mod Tested
+pub mod Looking
 pub mod Order
 pub mod PartOf
 pub mod Named
@@ -12,7 +13,8 @@ pub mod Proper
 pub mod Writing
 pub mod Reading
 pub mod Encoded
+pub mod Unique
 pub mod RoundTrip
 pub mod Same
 pub mod PartMoves
-pub mod Unique
+pub mod PartOffers

@@ -7,9 +7,9 @@ use lib.Dec.{ltb, leb}
 use borrow.Author.Tests.{ltb-false, leb-false, eq-eqb}
 use Rattle.csp.specs.Table.{Move}
 use Rattle.tables.specs.Moves.{misnames, misnamed, circles, circling}
-use Rattle.tables.proofs.Some.{some-none}
+use Rattle.tables.proofs.Some.{or-false, some-none}
 use Rattle.tables.proofs.Rows.{Stands}
-use Rattle.tables.proofs.Tested.{or-false, Sound}
+use Rattle.tables.proofs.Tested.{Sound}
 
 -- a move that names what there is
 pub record Named (n E : ℕ) (v : Move) : Type 0 where
@@ -24,17 +24,17 @@ named n E v h =
     let b = or-false (ltb E (v .event)) _ (a .1) in
     record { from = leb-false _ _ (a .0); event = ltb-false _ _ (b .0); to = leb-false _ _ (b .1) }
 
-module _ (n E : ℕ) (at : ℕ → Move) (m : ℕ) (s : Sound n E at m) where
+module _ (n E s : ℕ) (at : ℕ → Move) (m : ℕ) (g : Sound n E s at m) where
   -- 5, of each move
   pub each-named : (v : Move) → Stands at m v → Named n E v
   unfolding misnamed
-  each-named v i = named n E v (ap (misnames n E) (sym (i .is)) ∙ some-none _ m (i .number) (s .named) (i .below))
+  each-named v i = named n E v (ap (misnames n E) (sym (i .is)) ∙ some-none _ m (i .number) (g .named) (i .below))
 
   -- 7, of each move
   pub no-circle : (v : Move) → Stands at m v → v .event ≡ 0 → v .from ≡ v .to → ⊥
   unfolding circling circles
   no-circle v i z d =
-      let n : circles v ≡ false = ap circles (sym (i .is)) ∙ some-none _ m (i .number) (s .no-circle) (i .below) in
+      let n : circles v ≡ false = ap circles (sym (i .is)) ∙ some-none _ m (i .number) (g .no-circle) (i .below) in
       let y : circles v ≡ true = simp (eq-eqb (v .event) 0 z, eq-eqb (v .from) (v .to) d) in
       let u : true ≡ false = sym y ∙ n in
       let w : _≡_ {A = ℕ} 0 1 = cc in omega arith

@@ -6,14 +6,14 @@ use mathlib.Core.Logic.{_⊎_, inl, inr, ⊎-elim}
 use mathlib.Core.List.{List, [], _∷_, _++_, List·Memᴰ, List·Memᴰ·head, List·Memᴰ·tail, List·Memᴰ·not-nil, List·Memᴰ·cases-cons, List·Memᴰ·append-cases, List·Memᴰ·eq-of-singleton, Memᴰ·append-left, Memᴰ·append-right}
 use native.Mathlib.Omega.{arith}
 use native.Mathlib.Nat.{eq-or-lt-of-le}
-use lib.Dec.{eqb}
+use lib.Dec.{eqb, ltb}
 use borrow.Author.Tests.{ltb-true, eqb-true, not-false, lt-ltb, eq-eqb, ne-eqb}
 use Rattle.csp.specs.Table.{Move}
 use Rattle.tables.specs.Moves.{pick, precedes, disordered}
 use Rattle.tables.specs.Order.{Before, by-from, by-event, by-to, Ascending, none, more}
 use Rattle.tables.specs.Bytes.{row}
 use Rattle.tables.proofs.Some.{some-none, some-false}
-use Rattle.tables.proofs.Rows.{Stands, in-row, of-row}
+use Rattle.tables.proofs.Rows.{in-row, of-row}
 
 pick-cases : (t a b : Bool) → pick t a b ≡ true → ((t ≡ true) × (a ≡ true)) ⊎ ((t ≡ false) × (b ≡ true))
 pick-cases true a b e = inl (refl, e)
@@ -31,11 +31,23 @@ before a b h =
     (λ w. by-from (ltb-true _ _ (w .1)))
     (pick-cases (eqb (a .from) (b .from)) _ _ h)
 
-pub before-test : {a b : Move} → Before a b → precedes a b ≡ true
+-- each of the three comparisons decides where the earlier ones are equal
+pub precedes-from : (a b : Move) → (a .from ≡ b .from → ⊥) → ltb (a .from) (b .from) ≡ precedes a b
 unfolding precedes
-before-test {a} {b} (by-from h) = simp (ne-eqb (a .from) (b .from) (λ e. omega arith), lt-ltb _ _ h)
-before-test {a} {b} (by-event e h) = simp (eq-eqb _ _ e, ne-eqb (a .event) (b .event) (λ e. omega arith), lt-ltb _ _ h)
-before-test {a} {b} (by-to e f h) = simp (eq-eqb _ _ e, eq-eqb _ _ f, lt-ltb _ _ h)
+precedes-from a b n = rw (ne-eqb (a .from) (b .from) n) refl
+
+pub precedes-event : (a b : Move) → a .from ≡ b .from → (a .event ≡ b .event → ⊥) → ltb (a .event) (b .event) ≡ precedes a b
+unfolding precedes
+precedes-event a b e n = rw (eq-eqb (a .from) (b .from) e, ne-eqb (a .event) (b .event) n) refl
+
+pub precedes-to : (a b : Move) → a .from ≡ b .from → a .event ≡ b .event → ltb (a .to) (b .to) ≡ precedes a b
+unfolding precedes
+precedes-to a b e f = rw (eq-eqb (a .from) (b .from) e, eq-eqb (a .event) (b .event) f) refl
+
+pub before-test : {a b : Move} → Before a b → precedes a b ≡ true
+before-test {a} {b} (by-from h) = sym (precedes-from a b (λ e. omega arith)) ∙ lt-ltb _ _ h
+before-test {a} {b} (by-event e h) = sym (precedes-event a b e (λ e. omega arith)) ∙ lt-ltb _ _ h
+before-test {a} {b} (by-to e f h) = sym (precedes-to a b e f) ∙ lt-ltb _ _ h
 
 pub before-from : {a b : Move} → Before a b → a .from ≤ b .from
 before-from (by-from h) = omega arith

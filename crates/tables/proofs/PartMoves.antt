@@ -2,21 +2,22 @@
 use Prim.Native.Nat.{ℕ, zero, suc, _<_, _≤_, _+_, _*_, _/_, _%_}
 use mathlib.Core.Bool.{Bool, true, false}
 use mathlib.Core.Path.{_≡_, refl, sym, ap, ap₂, _∙_}
-use mathlib.Core.Logic.{_⊎_, inl, inr, ⊎-elim}
+use mathlib.Core.Logic.{⊎-elim}
 use mathlib.Core.List.{List, [], _∷_, _++_, append-nil, append-assoc, List·Memᴰ, List·Memᴰ·head, List·Memᴰ·tail, List·Memᴰ·not-nil, List·Memᴰ·cases-cons}
 use native.Mathlib.Omega.{arith}
 use lib.ListN.{length, take, drop, getD, length-append, length-drop, List·getD-append}
 use lib.Seq.{getD-append-add, getD-take, getD-drop, length-take-le}
 use lib.Dec.{eqb, ltb}
 use borrow.Author.Tests.{eqb-true, eq-eqb, ltb-false}
-use Rattle.csp.specs.Table.{Move, move}
+use Rattle.csp.specs.Table.{Move}
 use Rattle.tables.specs.Numbers.{num}
 use Rattle.tables.specs.Moves.{moveAt}
 use Rattle.tables.specs.Bytes.{states, count, moveOf, row, tableOf, movesIn}
 use Rattle.tables.specs.Valid.{refusal}
 use Rattle.tables.specs.State.{keep, ofState, movesOf, leaving}
 use Rattle.tables.specs.declared.answer.Test.the-variants.{Clear}
-use Rattle.tables.proofs.Rows.{same-move, row-same}
+use Rattle.tables.proofs.Rows.{same-move, row-same, in-row}
+use Rattle.tables.proofs.PartOf.{of-none}
 use Rattle.tables.proofs.Tested.{good}
 use Rattle.tables.proofs.Proper.{fits}
 
@@ -102,13 +103,6 @@ in-leaving s (w ∷ l) v i f =
     pick true j = List·Memᴰ·tail j
     pick false j = j
 
-leaving-none : (s : ℕ) (l : List Move) → ((v : Move) → List·Memᴰ v l → v .from ≡ s → ⊥) → leaving s l ≡ []
-leaving-none s l h = go (leaving s l) (λ v i. let r = leaving-in s l v i in h v (r .0) (r .1))
-  where
-    go : (k : List Move) → ((v : Move) → List·Memᴰ v k → ⊥) → k ≡ []
-    go [] h = refl
-    go (v ∷ k) h = absurd (h v (List·Memᴰ·head refl))
-
 -- the bytes kept are whole moves, and these are the moves that leave s
 record Kept (ms : List ℕ) (s m : ℕ) : Type 0 where
   whole : length (ofState ms s m) % 6 ≡ 0
@@ -140,25 +134,26 @@ module _ (t : List ℕ) (c : refusal t ≡ Clear) (s : ℕ) where
   all-kept : Kept (drop 12 t) s (count t)
   all-kept = kept (drop 12 t) s (count t) (omega (arith, good t c .frame .size, length-drop 12 t))
 
+  -- the part is what the whole table keeps: a state not below n has no move
+  pub part-bytes : movesOf t s ≡ ofState (drop 12 t) s (count t)
+  unfolding movesOf ofState
+  part-bytes = rw c (pick (ltb s (states t)) refl)
+    where
+      pick : (b : Bool) → ltb s (states t) ≡ b → keep b (ofState (drop 12 t) s (count t)) ≡ ofState (drop 12 t) s (count t)
+      pick true e = refl
+      pick false e =
+          let n : states t ≤ s = ltb-false _ _ e in
+          sym (ap (ofState (drop 12 t) s) (let z : count t ≡ 0 + count t = omega arith in z)
+          ∙ of-none (drop 12 t) s 0 (count t)
+          (λ j a b f. let g : moveOf t j .from < states t = fits t c .from-below (in-row (moveOf t) (count t) j (omega arith)) in omega arith))
+
   -- a part is a whole number of moves
   pub part-whole : length (movesOf t s) % 6 ≡ 0
-  unfolding movesOf
-  part-whole = rw c (pick (ltb s (states t)))
-    where
-      pick : (b : Bool) → length (keep b (ofState (drop 12 t) s (count t))) % 6 ≡ 0
-      pick true = all-kept .whole
-      pick false = refl
+  part-whole = rw part-bytes (all-kept .whole)
 
   -- The moves in the part are those that leave s, in their order.
   pub part-moves : movesIn (movesOf t s) ≡ leaving s (tableOf t .moves)
-  unfolding movesOf row
-  part-moves = rw c (pick (ltb s (states t)) refl)
-    where
-      pick : (b : Bool) → ltb s (states t) ≡ b → movesIn (keep b (ofState (drop 12 t) s (count t))) ≡ leaving s (tableOf t .moves)
-      pick true e = all-kept .moves
-      pick false e =
-          sym (leaving-none s (tableOf t .moves)
-          (λ v i f. let b : v .from < states t = fits t c .from-below i in let n : states t ≤ s = ltb-false _ _ e in omega arith))
+  part-moves = ap movesIn part-bytes ∙ all-kept .moves
 
   -- so each of them is a move of the table, from s, and each move of the table from s is among them
   pub part-sound : (v : Move) → List·Memᴰ v (movesIn (movesOf t s)) → List·Memᴰ v (tableOf t .moves) × (v .from ≡ s)

@@ -18,7 +18,7 @@ more : (ms : List ℕ) (s k d : ℕ) → ofState ms s (k + suc d) ≡ ofState ms
 unfolding ofState
 more ms s k d = rw add-suc
 
-of-none : (ms : List ℕ) (s k d : ℕ) → ((j : ℕ) → k ≤ j → j < k + d → moveAt ms j .from ≡ s → ⊥) → ofState ms s (k + d) ≡ ofState ms s k
+pub of-none : (ms : List ℕ) (s k d : ℕ) → ((j : ℕ) → k ≤ j → j < k + d → moveAt ms j .from ≡ s → ⊥) → ofState ms s (k + d) ≡ ofState ms s k
 of-none ms s k zero h = ap (ofState ms s) (let e : k + 0 ≡ k = omega arith in e)
 of-none ms s k (suc d) h =
     more ms s k d

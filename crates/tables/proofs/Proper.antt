@@ -1,12 +1,11 @@
 -- What the tests 2 and 4 to 7 leave of a table, said of its moves as a list: what a builder shows of the table that it writes.
-use Prim.Native.Nat.{ℕ, _<_}
+use Prim.Native.Nat.{ℕ}
 use mathlib.Core.Bool.{Bool, true, false}
-use mathlib.Core.Path.{_≡_, refl, sym, ap, _∙_, subst}
+use mathlib.Core.Path.{_≡_, refl, sym, subst}
 use mathlib.Core.Logic.{_↔_}
 use mathlib.Core.List.{List, List·Memᴰ, Memᴰ·cast}
-use native.Mathlib.Omega.{arith}
 use lib.ListN.{length}
-use lib.Dec.{eqb, ltb, leb}
+use lib.Dec.{eqb}
 use borrow.Author.Tests.{le-ltb, lt-leb, eqb-true}
 use Rattle.csp.specs.Table.{Move, Table, move, Fits}
 use Rattle.tables.specs.Tests.{and}
@@ -32,28 +31,29 @@ abbrev pub rowTable : ℕ → ℕ → ℕ → (ℕ → Move) → ℕ → Table
 rowTable n E s at m = record { n = n; E = E; start = s; moves = row at m }
 
 module _ (n E s : ℕ) (at : ℕ → Move) (m : ℕ) where
-  pub proper-row : Within n E m → s < n → Sound n E at m → Proper (rowTable n E s at m)
-  proper-row w b g = record {
+  pub proper-row : Within n E m → Sound n E s at m → Proper (rowTable n E s at m)
+  proper-row w g = record {
     limits = subst (λ (k : ℕ). Within n E k) (sym (row-length at m)) w;
     fits = record {
-      start-below = b;
+      start-below = g .starts;
       from-below = λ {p} {e} {q} i. one p e q i .from;
       to-below = λ {p} {e} {q} i. one p e q i .to;
       event-upto = λ {p} {e} {q} i. one p e q i .event;
     };
     ascending = row-ascending at m (g .ascending);
-    no-circle = λ p i. no-circle n E at m g (move p 0 p) (of-row at m (move p 0 p) i) refl refl;
+    no-circle = λ p i. no-circle n E s at m g (move p 0 p) (of-row at m (move p 0 p) i) refl refl;
   }
     where
       one : (p e q : ℕ) → List·Memᴰ (move p e q) (row at m) → Named n E (move p e q)
-      one p e q i = each-named n E at m g (move p e q) (of-row at m (move p e q) i)
+      one p e q i = each-named n E s at m g (move p e q) (of-row at m (move p e q) i)
 
   pub row-within : Proper (rowTable n E s at m) → Within n E m
   row-within g = subst (λ (k : ℕ). Within n E k) (row-length at m) (g .limits)
 
-  pub row-sound : Proper (rowTable n E s at m) → Sound n E at m
+  pub row-sound : Proper (rowTable n E s at m) → Sound n E s at m
   unfolding misnamed circling misnames circles
   row-sound g = record {
+    starts = g .fits .start-below;
     named = some-false _ m (λ j l.
         let i = in-row at m j l in
         simp (lt-leb _ _ (g .fits .from-below i), le-ltb _ _ (g .fits .event-upto i), lt-leb _ _ (g .fits .to-below i)));
@@ -75,7 +75,7 @@ module _ (n E s : ℕ) (at : ℕ → Move) (m : ℕ) where
 
 -- A table that no test refuses is proper; above all it fits.
 pub proper : (t : List ℕ) → refusal t ≡ Clear → Proper (tableOf t)
-proper t c = let g = good t c in proper-row _ _ _ _ _ (g .limits) (g .starts) (g .moves)
+proper t c = let g = good t c in proper-row _ _ _ _ _ (g .limits) (g .moves)
 
 pub fits : (t : List ℕ) → refusal t ≡ Clear → Fits (tableOf t)
 fits t c = proper t c .fits

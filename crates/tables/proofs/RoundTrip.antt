@@ -11,17 +11,22 @@ use borrow.Author.Tests.{ltb-false}
 use Rattle.csp.specs.Table.{Table}
 use Rattle.tables.specs.Numbers.{AllBytes, over}
 use Rattle.tables.specs.Moves.{listed}
-use Rattle.tables.specs.Bytes.{states, events, start, count, row, tableOf, encoded}
+use Rattle.tables.specs.Bytes.{states, events, start, count, tableOf, encoded}
 use Rattle.tables.specs.Valid.{refusal}
-use Rattle.tables.specs.Writer.{listRefusal, tableFrom, Written, written, writes}
-use Rattle.tables.specs.Reader.{listOf, Given, given, reads}
+use Rattle.tables.specs.Writer.{listRefusal, tableFrom, Written, written, writes, WriteCall}
+use Rattle.tables.specs.Reader.{listOf, Given, given, reads, ReadCall}
 use Rattle.tables.specs.declared.answer.Test.{Test}
 use Rattle.tables.specs.declared.answer.Test.the-variants.{Clear, Refuses}
+use Rattle.tables.specs.declared.answer.Built.{Built}
+use Rattle.tables.specs.declared.answer.Read.{Read}
+use Rattle.tables.specs.declared.answer.Built.the-variants as built
+use Rattle.tables.specs.declared.answer.Read.the-variants as read
 use Rattle.tables.specs.Answers.{wrote, table}
 use Rattle.tables.proofs.Rows.{row-length}
-use Rattle.tables.proofs.Tested.{Good, good}
+use Rattle.tables.proofs.Tested.{good}
 use Rattle.tables.proofs.Writing.{Sayable, sayable, sayable-clear, length-table, threes-back, write-done}
 use Rattle.tables.proofs.Reading.{length-list, read-done}
+use Rattle.tables.proofs.Unique.{built-one, read-one}
 use Rattle.tables.proofs.Proper.{Proper, proper-row, row-within, row-sound, proper}
 use Rattle.tables.proofs.Encoded.{states-is, events-is, start-is, count-is, list-is, encoded-clear, list-moves, encoded-again}
 
@@ -80,7 +85,7 @@ module _ (n E s : ℕ) (l : List ℕ) (h : listRefusal n E s l ≡ Clear) where
 
   -- what is to be written is proper
   pub from-proper : Proper (tableFrom n E s l)
-  from-proper = let g = sayable n E s l h in proper-row n E s (listed l) (length l / 3) (g .limits) (g .starts) (g .moves)
+  from-proper = let g = sayable n E s l h in proper-row n E s (listed l) (length l / 3) (g .limits) (g .moves)
 
   -- What is written is read back: n, E, start, the count of moves and the moves.
   pub write-read : (old : List ℕ) → length l ≤ length old →
@@ -92,16 +97,20 @@ module _ (n E s : ℕ) (l : List ℕ) (h : listRefusal n E s l ≡ Clear) where
       read-done (encoded t) old (encoded-clear t from-proper) (omega (arith, m))
       ∙ rw (states-is t, events-is t, start-is t, m, e) refl
 
--- The same of the calls: whatever buffer was written into, the bytes written are read back.
-pub write-then-read : (n E s : ℕ) (l out old : List ℕ) (size : ℕ) → writes n E s l out .says ≡ wrote size → length l ≤ length old →
-    reads (take size (writes n E s l out .out)) old ≡ record { says = table n E s (length l / 3); list = over l old }
-write-then-read n E s l out old size a k =
-    let w = wrote-says n E s l out size a in
+-- Of the calls, whatever buffer is written into: the bytes written are read back.
+pub write-then-read :
+    (n E s size : ℕ) (l out out′ old new : List ℕ) (r : Read) →
+    WriteCall n E s l out (built.Wrote size) out′ → ReadCall (take size out′) old r new → length l ≤ length old →
+    (r ≡ read.Table n E s (length l / 3)) × (new ≡ over l old)
+write-then-read n E s size l out out′ old new r p q k =
+    let w = wrote-says n E s l out size (sym (p .answer)) in
     let t : List ℕ = encoded (tableFrom n E s l) in
-    let e : take size (writes n E s l out .out) ≡ t =
-    ap (λ (x : Written). take size (x .out)) (write-done n E s l out (w .clear) (w .room))
+    let e : take size out′ ≡ t =
+    ap (take size) (p .buffer ∙ ap (λ (x : Written). x .out) (write-done n E s l out (w .clear) (w .room)))
     ∙ take-at t (drop (length t) out) size (sym (w .is)) in
-    ap (λ (x : List ℕ). reads x old) e ∙ write-read n E s l (w .clear) old k
+    let g : reads (take size out′) old ≡ record { says = table n E s (length l / 3); list = over l old } =
+    ap (λ (x : List ℕ). reads x old) e ∙ write-read n E s l (w .clear) old k in
+    (read-one r (read.Table n E s (length l / 3)) (q .answer ∙ ap (λ (x : Given). x .says) g), q .list ∙ ap (λ (x : Given). x .list) g)
 
 module _ (t : List ℕ) (c : refusal t ≡ Clear) where
   third : length (listOf t) / 3 ≡ count t
@@ -118,7 +127,6 @@ module _ (t : List ℕ) (c : refusal t ≡ Clear) where
       record {
         limits = row-within _ _ _ _ _ p;
         threes = omega (arith, length-list t g);
-        starts = g .starts;
         moves = row-sound _ _ _ _ _ p;
       }
 
@@ -132,14 +140,17 @@ module _ (t : List ℕ) (c : refusal t ≡ Clear) where
       write-done _ _ _ _ out (sayable-clear _ _ _ _ list-sayable) (omega arith)
       ∙ rw (e, n) refl
 
--- The same of the calls: whatever list was read into, the numbers given back are written back.
-pub read-then-write : (t old out : List ℕ) (n E s m : ℕ) → AllBytes t → reads t old .says ≡ table n E s m → length t ≤ length out →
-    writes n E s (take (3 * m) (reads t old .list)) out ≡ record { says = wrote (length t); out = over t out }
-read-then-write t old out n E s m b a k =
-    let r = gave t old a in
-    let g = good t (r .clear) in
-    let p : 3 * m ≡ length (listOf t) = omega (arith, r .moves, length-list t g) in
-    let e : take (3 * m) (reads t old .list) ≡ listOf t =
-    ap (λ (x : Given). take (3 * m) (x .list)) (read-done t old (r .clear) (r .room))
-    ∙ take-at (listOf t) (drop (length (listOf t)) old) (3 * m) (sym p) in
-    rw (e, r .states, r .events, r .start) (read-write t (r .clear) b out k)
+-- Of the calls, whatever list is read into: the numbers given back are written back, byte for byte.
+pub read-then-write :
+    (n E s m : ℕ) (t old new out out′ : List ℕ) (r : Built) →
+    ReadCall t old (read.Table n E s m) new → WriteCall n E s (take (3 * m) new) out r out′ → length t ≤ length out →
+    (r ≡ built.Wrote (length t)) × (out′ ≡ over t out)
+read-then-write n E s m t old new out out′ r p q k =
+    let w = gave t old (sym (p .answer)) in
+    let x : 3 * m ≡ length (listOf t) = omega (arith, w .moves, length-list t (good t (w .clear))) in
+    let e : take (3 * m) new ≡ listOf t =
+    ap (take (3 * m)) (p .list ∙ ap (λ (x : Given). x .list) (read-done t old (w .clear) (w .room)))
+    ∙ take-at (listOf t) (drop (length (listOf t)) old) (3 * m) (sym x) in
+    let g : writes n E s (take (3 * m) new) out ≡ record { says = wrote (length t); out = over t out } =
+    rw (e, w .states, w .events, w .start) (read-write t (w .clear) (p .bytes) out k) in
+    (built-one r (built.Wrote (length t)) (q .answer ∙ ap (λ (x : Written). x .says) g), q .buffer ∙ ap (λ (x : Written). x .out) g)

@@ -1,5 +1,5 @@
 -- The moves of a row as a list: what is in it, and its moves as numbers.
-use Prim.Native.Nat.{ℕ, zero, suc, _<_, _≤_, _+_, _*_, _/_, _%_}
+use Prim.Native.Nat.{ℕ, zero, suc, _<_, _≤_, _+_, _*_}
 use mathlib.Core.Path.{_≡_, refl, sym, ap, ap₂, _∙_}
 use mathlib.Core.Logic.{⊎-elim}
 use mathlib.Core.List.{List, [], _∷_, _++_, append-assoc, List·Memᴰ, List·Memᴰ·head, List·Memᴰ·not-nil, List·Memᴰ·append-cases, List·Memᴰ·eq-of-singleton, Memᴰ·append-left, Memᴰ·append-right}
@@ -7,7 +7,7 @@ use native.Mathlib.Omega.{arith}
 use native.Mathlib.Nat.{eq-or-lt-of-le}
 use lib.ListN.{length, take, getD, length-append}
 use lib.Seq.{take-suc, take-all}
-use Rattle.csp.specs.Table.{Move, move}
+use Rattle.csp.specs.Table.{Move}
 use Rattle.tables.specs.Moves.{listed}
 use Rattle.tables.specs.Bytes.{row, threes}
 

@@ -26,9 +26,11 @@ alike-same a b p q k i = record { n = k .n i; E = k .E i; start = k .start i; mo
     moves : a .moves ≡ b .moves
     moves = ascending-unique (a .moves) (b .moves) (p .ascending) (q .ascending) (k .there) (k .back)
 
+-- What a builder writes is the one good table with these moves.
+pub encoded-same : (a : Table) (u : List ℕ) → Proper a → AllBytes u → refusal u ≡ Clear → Alike a (tableOf u) → encoded a ≡ u
+encoded-same a u p bu cu k = ap encoded (alike-same a (tableOf u) p (proper u cu) k) ∙ encoded-again u (good u cu) bu
+
 pub tables-same :
     (t u : List ℕ) → AllBytes t → AllBytes u → refusal t ≡ Clear → refusal u ≡ Clear → Alike (tableOf t) (tableOf u) → t ≡ u
 tables-same t u bt bu ct cu k =
-    sym (encoded-again t (good t ct) bt)
-    ∙ ap encoded (alike-same (tableOf t) (tableOf u) (proper t ct) (proper u cu) k)
-    ∙ encoded-again u (good u cu) bu
+    sym (encoded-again t (good t ct) bt) ∙ encoded-same (tableOf t) u (proper t ct) bu cu k

@@ -4,7 +4,7 @@ use mathlib.Core.List.{List, [], _∷_, _++_}
 use lib.ListN.{length, drop}
 use Rattle.csp.specs.Table.{Move, Table}
 use Rattle.tables.specs.Numbers.{num, bytes}
-use Rattle.tables.specs.Moves.{moveAt, listed}
+use Rattle.tables.specs.Moves.{moveAt}
 
 -- "count of states n at 0, count of visible events E at 2, start state at 4, count of moves m at 6"
 abbrev pub states : List ℕ → ℕ
@@ -41,6 +41,10 @@ unfoldable pub threes : List Move → List ℕ
 threes [] = []
 threes (v ∷ l) = v .from ∷ v .event ∷ v .to ∷ threes l
 
--- the bytes of a table: the header's six numbers, "offset of the moves at 8, zero at 10", then the moves
+-- "Header of 12 bytes: count of states n at 0, count of visible events E at 2, start state at 4, count of moves m at 6, offset of the moves at 8, zero at 10."
+abbrev pub header : ℕ → ℕ → ℕ → ℕ → List ℕ
+header n E s m = bytes (n ∷ E ∷ s ∷ m ∷ 12 ∷ 0 ∷ [])
+
+-- the bytes of a table that is to be written: the header, then its moves
 unfoldable pub encoded : Table → List ℕ
-encoded t = bytes (t .n ∷ t .E ∷ t .start ∷ length (t .moves) ∷ 12 ∷ 0 ∷ threes (t .moves))
+encoded t = header (t .n) (t .E) (t .start) (length (t .moves)) ++ bytes (threes (t .moves))

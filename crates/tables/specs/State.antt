@@ -29,7 +29,7 @@ unlessRefused (Refuses k) l = []
 unfoldable pub movesOf : List ℕ → ℕ → List ℕ
 movesOf t s = unlessRefused (refusal t) (keep (ltb s (states t)) (ofState (drop 12 t) s (count t)))
 
--- those of a list of moves that leave s: what the part holds
+-- those of a list of moves that leave s, in their order: by a law, the moves that stand in the part
 unfoldable pub leaving : ℕ → List Move → List Move
 leaving s [] = []
 leaving s (v ∷ l) = keep (eqb (v .from) s) (v ∷ []) ++ leaving s l

@@ -1,5 +1,6 @@
 -- What the writer answers and leaves in the result buffer.
 use Prim.Native.Nat.{ℕ, _/_, _%_}
+use mathlib.Core.Path.{_≡_}
 use mathlib.Core.Bool.{Bool, true, false, not}
 use mathlib.Core.List.{List}
 use lib.ListN.{length}
@@ -9,10 +10,11 @@ use Rattle.tables.specs.Numbers.{over}
 use Rattle.tables.specs.Tests.{when}
 use Rattle.tables.specs.Moves.{listed}
 use Rattle.tables.specs.Bytes.{row, encoded}
-use Rattle.tables.specs.Valid.{outside, astray, moveTests}
+use Rattle.tables.specs.Valid.{outside, laterTests}
 use Rattle.tables.specs.declared.answer.Test.{Test}
 use Rattle.tables.specs.declared.answer.Test.the-variants.{Clear, Refuses}
-use Rattle.tables.specs.Answers.{Says, refused, wrote, rule, call}
+use Rattle.tables.specs.declared.answer.Built.{Built}
+use Rattle.tables.specs.Answers.{Says, refused, wrote, rule, call, builtSays}
 
 -- 3: "a list not in threes"
 abbrev pub notInThrees : List ℕ → Bool
@@ -23,8 +25,7 @@ unfoldable pub listRefusal : ℕ → ℕ → ℕ → List ℕ → Test
 listRefusal n E s l =
     when (outside n E (length l / 3)) 2
     (when (notInThrees l) 3
-    (when (astray n s) 4
-    (moveTests n E (listed l) (length l / 3))))
+    (laterTests n E s (listed l) (length l / 3)))
 
 -- the table that is to be written
 abbrev pub tableFrom : ℕ → ℕ → ℕ → List ℕ → Table
@@ -34,7 +35,7 @@ pub record Written : Type 0 where
   pub says : Says
   pub out : List ℕ
 
--- refused, the buffer is untouched; else the table stands in it
+-- refused, the buffer is as it was ("untouched by it"); else the table stands in it
 abbrev pub written : Test → Bool → List ℕ → List ℕ → Written
 written (Refuses k) short table old = record { says = refused rule k; out = old }
 written Clear true table old = record { says = refused call 18; out = old }
@@ -45,3 +46,8 @@ unfoldable pub writes : ℕ → ℕ → ℕ → List ℕ → List ℕ → Writte
 writes n E s l old =
     let new = encoded (tableFrom n E s l) in
     written (listRefusal n E s l) (ltb (length old) (length new)) new old
+
+-- what a call of the writer promises: r is its answer, new the result buffer after it
+pub record WriteCall (n E s : ℕ) (l old : List ℕ) (r : Built) (new : List ℕ) : Type 0 where
+  pub answer : builtSays r ≡ writes n E s l old .says
+  pub buffer : new ≡ writes n E s l old .out

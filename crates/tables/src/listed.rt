@@ -2,11 +2,12 @@
 ghost use mathlib.Core.Path.{_≡_};
 ghost use Prim.Native.Nat.{_+_, _*_, _≤_, _<_};
 ghost use lib.ListN.{length};
-ghost use Rattle.tables.specs.Moves.{meant, listed, misnamed, disordered, circling};
-ghost use Rattle.tables.specs.Valid.{moveTests};
+ghost use Rattle.tables.specs.Moves.{meant, listed};
+ghost use Rattle.tables.specs.Looking.{Looks};
 ghost use Rattle.tables.specs.Writer.{listRefusal};
 use crate::answer::Test;
 use crate::moves;
+use crate::moves::Found;
 use crate::moves::Move;
 use crate::num::wide16;
 use crate::valid;
@@ -23,67 +24,22 @@ fn listed_at(list: &[u16], j: usize) -> Move
     }
 }
 
-fn some_misnamed(list: &[u16], m: usize, n: usize, e: usize) -> bool
+// What 5, 6 and 7 find in a list.
+fn look_over(list: &[u16], m: usize, n: usize, e: usize) -> Found
     requires { ⌜ 3 * m ≤ length (now list) ⌝ }
-    ensures { λ r. ⌜ r ≡ misnamed n e (listed (now (list .entry))) m ⌝ }
+    ensures { λ r. ⌜ Looks n e (listed (now (list .entry))) m r ⌝ }
 {
+    let mut found = moves::nothing();
     let mut i = 0;
     while i < m {
-        if moves::misnames_one(listed_at(list, i), n, e) {
-            return true;
-        }
+        found = moves::look(found, i, listed_at(list, i), n, e);
         i += 1;
     }
-    false
+    found
 }
 
-fn some_disordered(list: &[u16], m: usize) -> bool
-    requires { ⌜ 3 * m ≤ length (now list) ⌝ }
-    ensures { λ r. ⌜ r ≡ disordered (listed (now (list .entry))) m ⌝ }
-{
-    let mut i = 0;
-    while i + 1 < m {
-        if !moves::precedes_one(listed_at(list, i), listed_at(list, i + 1)) {
-            return true;
-        }
-        i += 1;
-    }
-    false
-}
-
-fn some_circling(list: &[u16], m: usize) -> bool
-    requires { ⌜ 3 * m ≤ length (now list) ⌝ }
-    ensures { λ r. ⌜ r ≡ circling (listed (now (list .entry))) m ⌝ }
-{
-    let mut i = 0;
-    while i < m {
-        if moves::circles_one(listed_at(list, i)) {
-            return true;
-        }
-        i += 1;
-    }
-    false
-}
-
-// 5 to 7
-fn test_moves(list: &[u16], m: usize, n: usize, e: usize) -> Test
-    requires { ⌜ 3 * m ≤ length (now list) ⌝ }
-    ensures { λ r. ⌜ r ≡ moveTests n e (listed (now (list .entry))) m ⌝ }
-{
-    if some_misnamed(list, m, n, e) {
-        return Test::Refuses(5);
-    }
-    if some_disordered(list, m) {
-        return Test::Refuses(6);
-    }
-    if some_circling(list, m) {
-        return Test::Refuses(7);
-    }
-    Test::Clear
-}
-
-// The first of 2 to 7 that applies to what is to be written.
-pub fn test(n: usize, e: usize, start: usize, list: &[u16]) -> Test
+// The first of 2 to 7 that applies, of numbers widened.
+fn test_wide(n: usize, e: usize, start: usize, list: &[u16]) -> Test
     ensures { λ r. ⌜ r ≡ listRefusal n e start (now (list .entry)) ⌝ }
 {
     let m = list.len() / 3;
@@ -93,8 +49,13 @@ pub fn test(n: usize, e: usize, start: usize, list: &[u16]) -> Test
     if list.len() % 3 != 0 {
         return Test::Refuses(3);
     }
-    if start >= n {
-        return Test::Refuses(4);
-    }
-    test_moves(list, m, n, e)
+    let found = look_over(list, m, n, e);
+    moves::verdict(start >= n, found)
+}
+
+// The first of 2 to 7 that applies to what is to be written.
+pub fn test(n: u16, e: u16, start: u16, list: &[u16]) -> Test
+    ensures { λ r. ⌜ r ≡ listRefusal n e start (now (list .entry)) ⌝ }
+{
+    test_wide(wide16(n), wide16(e), wide16(start), list)
 }

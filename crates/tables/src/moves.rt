@@ -1,8 +1,14 @@
-// Moves, and the tests of the moves of a part of a table.
+// Moves, and what 5, 6 and 7 find among them, one after the other.
 ghost use mathlib.Core.Path.{_≡_};
-ghost use Prim.Native.Nat.{_+_, _*_, _≤_, _<_};
+ghost use mathlib.Core.Bool.{not};
+ghost use Prim.Native.Nat.{_+_, _*_, _<_};
 ghost use lib.ListN.{length};
-ghost use Rattle.tables.specs.Moves.{meant, moveAt, misnames, precedes, circles, misnamed, disordered, circling};
+ghost use lib.Dec.{ltb};
+ghost use Rattle.tables.specs.Tests.{or, and};
+ghost use Rattle.tables.specs.Moves.{meant, moveAt, misnames, precedes, circles};
+ghost use Rattle.tables.specs.Valid.{firstOf};
+ghost use Rattle.tables.specs.Looking.{Nothing, LooksAt};
+use crate::answer::Test;
 use crate::num::get;
 
 pub struct Move {
@@ -12,7 +18,7 @@ pub struct Move {
 }
 
 // Whether a move names a state not below n or an event above e.
-pub fn misnames_one(v: Move, n: usize, e: usize) -> bool
+fn misnames_one(v: Move, n: usize, e: usize) -> bool
     ensures { λ r. ⌜ r ≡ misnames n e (meant v) ⌝ }
 {
     if v.from >= n {
@@ -25,7 +31,7 @@ pub fn misnames_one(v: Move, n: usize, e: usize) -> bool
 }
 
 // Whether a comes before b: by from, then event, then to.
-pub fn precedes_one(a: Move, b: Move) -> bool
+fn precedes_one(a: Move, b: Move) -> bool
     ensures { λ r. ⌜ r ≡ precedes (meant a) (meant b) ⌝ }
 {
     if a.from != b.from {
@@ -38,7 +44,7 @@ pub fn precedes_one(a: Move, b: Move) -> bool
 }
 
 // Whether a move is silent and leads from a state to itself.
-pub fn circles_one(v: Move) -> bool
+fn circles_one(v: Move) -> bool
     ensures { λ r. ⌜ r ≡ circles (meant v) ⌝ }
 {
     if v.event != 0 {
@@ -59,44 +65,78 @@ pub fn move_at(ms: &[u8], j: usize) -> Move
     }
 }
 
-pub fn some_misnamed(ms: &[u8], m: usize, n: usize, e: usize) -> bool
-    requires { ⌜ 6 * m ≤ length (now ms) ⌝ }
-    ensures { λ r. ⌜ r ≡ misnamed n e (moveAt (now (ms .entry))) m ⌝ }
-{
-    let mut i = 0;
-    while i < m {
-        if misnames_one(move_at(ms, i), n, e) {
-            return true;
-        }
-        i += 1;
-    }
-    false
+// What the tests 5, 6 and 7 find among the moves looked at so far, and the last of these moves.
+pub struct Found {
+    pub misnamed: bool,
+    pub disordered: bool,
+    pub circling: bool,
+    pub last: Move,
 }
 
-pub fn some_disordered(ms: &[u8], m: usize) -> bool
-    requires { ⌜ 6 * m ≤ length (now ms) ⌝ }
-    ensures { λ r. ⌜ r ≡ disordered (moveAt (now (ms .entry))) m ⌝ }
+// What is found before the first move.
+pub fn nothing() -> Found
+    ensures { λ r. ⌜ Nothing r ⌝ }
 {
-    let mut i = 0;
-    while i + 1 < m {
-        if !precedes_one(move_at(ms, i), move_at(ms, i + 1)) {
-            return true;
-        }
-        i += 1;
+    Found {
+        misnamed: false,
+        disordered: false,
+        circling: false,
+        last: Move {
+            from: 0,
+            event: 0,
+            to: 0,
+        },
     }
-    false
 }
 
-pub fn some_circling(ms: &[u8], m: usize) -> bool
-    requires { ⌜ 6 * m ≤ length (now ms) ⌝ }
-    ensures { λ r. ⌜ r ≡ circling (moveAt (now (ms .entry))) m ⌝ }
+// Whether a or b; both are computed, so that no branch stands around a call.
+fn either(a: bool, b: bool) -> bool
+    ensures { λ r. ⌜ r ≡ or a b ⌝ }
 {
-    let mut i = 0;
-    while i < m {
-        if circles_one(move_at(ms, i)) {
-            return true;
-        }
-        i += 1;
+    if a {
+        return true;
     }
-    false
+    b
+}
+
+// Whether move i does not come after the last: the first comes after none.
+fn strays(i: usize, last: Move, v: Move) -> bool
+    ensures { λ r. ⌜ r ≡ and (ltb 0 i) (not (precedes (meant last) (meant v))) ⌝ }
+{
+    if i == 0 {
+        return false;
+    }
+    !precedes_one(last, v)
+}
+
+// Looks at move i besides.
+pub fn look(f: Found, i: usize, v: Move, n: usize, e: usize) -> Found
+    ensures { λ r. ⌜ LooksAt n e i (meant v) f r ⌝ }
+{
+    let last = f.last;
+    Found {
+        misnamed: either(f.misnamed, misnames_one(v, n, e)),
+        disordered: either(f.disordered, strays(i, last, v)),
+        circling: either(f.circling, circles_one(v)),
+        last: v,
+    }
+}
+
+// The first of 4 to 7 that holds.
+pub fn verdict(astray: bool, f: Found) -> Test
+    ensures { λ r. ⌜ r ≡ firstOf astray (f .misnamed) (f .disordered) (f .circling) ⌝ }
+{
+    if astray {
+        return Test::Refuses(4);
+    }
+    if f.misnamed {
+        return Test::Refuses(5);
+    }
+    if f.disordered {
+        return Test::Refuses(6);
+    }
+    if f.circling {
+        return Test::Refuses(7);
+    }
+    Test::Clear
 }

@@ -1,35 +1,40 @@
 // The writer.
 ghost use mathlib.Core.Path.{_≡_};
+ghost use mathlib.Core.List.{_++_};
 ghost use Prim.Native.Nat.{_+_, _*_, _/_, _%_, _≤_};
-ghost use lib.ListN.{length};
+ghost use lib.ListN.{length, drop};
 ghost use Rattle.tables.specs.Numbers.{over};
-ghost use Rattle.tables.specs.Answers.{builtSays};
-ghost use Rattle.tables.specs.Bytes.{encoded};
-ghost use Rattle.tables.specs.Writer.{tableFrom, writes};
+ghost use Rattle.tables.specs.Bytes.{header, encoded};
+ghost use Rattle.tables.specs.Writer.{tableFrom, WriteCall};
 use crate::answer::Built;
 use crate::answer::Refusal;
 use crate::answer::Test;
 use crate::listed;
 use crate::num::put_all;
-use crate::num::wide16;
+
+// Puts the header of a table with m moves.
+pub fn put_header(n: u16, e: u16, start: u16, m: u16, out: &mut [u8])
+    requires { ⌜ 12 ≤ length (now out) ⌝ }
+    ensures { λ r. ⌜ now (out .exit) ≡ header n e start m ++ drop 12 (now (out .entry)) ⌝ }
+{
+    let numbers = [n, e, start, m, 12, 0];
+    put_all(out, &numbers);
+}
 
 // Puts the header, and the moves into the rest of the buffer.
 fn put_table(n: u16, e: u16, start: u16, list: &[u16], out: &mut [u8])
     requires { ⌜ (12 + 2 * length (now list) ≤ length (now out)) × ((length (now list) / 3 ≤ 4096) × (length (now list) % 3 ≡ 0)) ⌝ }
     ensures { λ r. ⌜ now (out .exit) ≡ over (encoded (tableFrom n e start (now (list .entry)))) (now (out .entry)) ⌝ }
 {
-    let m = (list.len() / 3) as u16;
-    let header = [n, e, start, m, 12, 0];
-    put_all(out, &header);
+    put_header(n, e, start, (list.len() / 3) as u16, out);
     put_all(&mut out[12..], list);
 }
 
 // Writes the table of n, e, start and a list of moves.
 pub fn write(n: u16, e: u16, start: u16, list: &[u16], out: &mut [u8]) -> Built
-    ensures answer { λ r. ⌜ builtSays r ≡ writes n e start (now (list .entry)) (now (out .entry)) .says ⌝ }
-    ensures buffer { λ r. ⌜ now (out .exit) ≡ writes n e start (now (list .entry)) (now (out .entry)) .out ⌝ }
+    ensures { λ r. ⌜ WriteCall n e start (now (list .entry)) (now (out .entry)) r (now (out .exit)) ⌝ }
 {
-    let found = listed::test(wide16(n), wide16(e), wide16(start), list);
+    let found = listed::test(n, e, start, list);
     if let Test::Refuses(k) = found {
         return Built::Refused(Refusal::Rule(k));
     }

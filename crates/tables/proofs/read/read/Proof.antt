@@ -4,16 +4,12 @@ use mathlib.Core.Path.{_≡_, ap, sym, _∙_}
 use native.Mathlib.Omega.{arith}
 use lib.ListN.{drop, length}
 use borrow.Author.Needs.{needs}
-use Rattle.tables.proofs.Reading.{read-refused, read-short, read-done}
-use Rattle.tables.proofs.Tested.{good}
-use Rattle.tables.proofs.Parts.{tail-lent}
-use Rattle.tables.proofs.Coded.{length-numbers}
-use Rattle.tables.specs.Answers.{table}
-use Rattle.tables.specs.declared.answer.Test.the-variants.{Clear, Refuses}
-use Rattle.tables.specs.Reader.{Given, listOf}
-use Rattle.tables.specs.Valid.{refusal}
-use Rattle.tables.specs.Bytes.{states, events, start, count}
 use Rattle.tables.specs.Numbers.{numbers}
+use Rattle.tables.specs.Valid.{refusal}
+use Rattle.tables.specs.declared.answer.Test.the-variants.{Clear}
+use Rattle.tables.proofs.Parts.{tail-lent}
+use Rattle.tables.proofs.Tested.{good}
+use Rattle.tables.proofs.Reading.{call-refused, call-short, call-done}
 use Rattle.tables.proofs.read.read.Statement.{statement}
 use Rattle.tables.proofs.read.read.Tie as tie
 
@@ -25,10 +21,10 @@ enum-known-found c = search needs
 
 returns : tie.Need-returns
 returns c =
-    let a = c .before .before .before .before .before .before .args in
-    let h : refusal (a .t .now) ≡ Refuses (c .before .found .given .0 .0) = cc in
-    let w = read-refused _ (a .list .now) _ h in
-    (ap (λ (x : Given). x .says) (sym w), ap (λ (x : Given). x .list) (sym w))
+    call-refused _ _
+    (λ i. omega (arith, c .before .before .before .before .before .shared-slice-known .given i))
+    _
+    (sym (c .before .before .before .test .ensures) ∙ c .before .found .given .1)
 
 enum-told : tie.Need-enum-told
 enum-told c = search needs
@@ -42,10 +38,10 @@ mul-if1 c = search needs
 
 returns-2 : tie.Need-returns-2
 returns-2 c =
-    let a = c .before .before .before .before .before .before .before .args in
-    let h : refusal (a .t .now) ≡ Clear = cc in
-    let w = read-short _ (a .list .now) h (omega (arith, c .before .get .ensures .0)) in
-    (ap (λ (x : Given). x .says) (sym w), ap (λ (x : Given). x .list) (sym w))
+    call-short _ _
+    (λ i. omega (arith, c .before .before .before .before .before .before .shared-slice-known .given i))
+    (sym (c .before .before .before .before .test .ensures) ∙ c .before .before .enum-told .given .1)
+    (omega (arith, c .before .get .ensures .0))
 
 sub-give : tie.Need-sub-give
 sub-give c =
@@ -81,17 +77,20 @@ returns-3 : tie.Need-returns-3
 returns-3 c =
     let a = c .before .before .before .before .before .before .before .before .before .before .before .before .before .before .before .args in
     let t = a .t .now in
-    let old = a .list .now in
     let h : refusal t ≡ Clear = sym (c .before .before .before .before .before .before .before .before .before .before .before .before .test .ensures) ∙ c .before .before .before .before .before .before .before .before .before .before .enum-told .given .1 in
-    let w = read-done t old h (omega (arith, c .before .before .before .before .before .before .before .before .before .get .ensures .0)) in
-    let z : table (c .before .before .get16 .result) (c .before .get162 .result) (c .get163 .result) (c .before .before .before .before .before .before .before .before .before .get .result) ≡ table (states t) (events t) (start t) (count t) = cc in (
-      z
-          ∙ ap (λ (x : Given). x .says) (sym w),
-      c .before .before .before .before .before .give .ensures
-          ∙ ap (λ (x : List ℕ). numbers x ++ drop (length x / 2) old) (tail-lent 12 t)
-          ∙ ap (λ (n : ℕ). listOf t ++ drop n old) (sym (length-numbers (drop 12 t)))
-          ∙ ap (λ (x : Given). x .list) (sym w),
-    )
+    call-done t (a .list .now)
+    (λ i. omega (arith, c .before .before .before .before .before .before .before .before .before .before .before .before .before .before .shared-slice-known .given i))
+    _ _ _ _ _ h
+    (omega (arith, c .before .before .before .before .before .before .before .before .before .get .ensures .0))
+    (record {
+      long = good t h .long;
+      states = c .before .before .get16 .ensures;
+      events = c .before .get162 .ensures;
+      start = c .get163 .ensures;
+      count = c .before .before .before .before .before .before .before .before .before .get .ensures .0;
+      small = c .before .before .before .before .before .before .before .before .before .get .ensures .1;
+    })
+    (c .before .before .before .before .before .give .ensures ∙ ap (λ (x : List ℕ). numbers x ++ drop (length x / 2) (a .list .now)) (tail-lent 12 t))
 
 pub read-spec : {M : Type 1} → statement M
 read-spec =

@@ -1,20 +1,9 @@
-use mathlib.Core.Path.{_≡_, ap, sym, _∙_}
+use mathlib.Core.Path.{sym, _∙_}
 use native.Mathlib.Omega.{arith}
+use Rattle.tables.proofs.Writing.{sayable, call-refused, call-short, call-done}
 use borrow.Author.Needs.{needs}
-use Rattle.tables.proofs.Writing.{sayable, write-refused, write-short, write-done}
-use Rattle.tables.specs.declared.answer.Test.the-variants.{Clear, Refuses}
-use Rattle.tables.specs.Writer.{listRefusal, Written}
 use Rattle.tables.proofs.write.write.Statement.{statement}
 use Rattle.tables.proofs.write.write.Tie as tie
-
-wide16-requires : tie.Need-wide16-requires
-wide16-requires c κs = search needs
-
-wide16-requires-2 : tie.Need-wide16-requires-2
-wide16-requires-2 c κs = search needs
-
-wide16-requires-3 : tie.Need-wide16-requires-3
-wide16-requires-3 c κs = search needs
 
 test-requires : tie.Need-test-requires
 test-requires c κs = search needs
@@ -23,11 +12,7 @@ enum-known-found : tie.Need-enum-known-found
 enum-known-found c = search needs
 
 returns : tie.Need-returns
-returns c =
-    let a = c .before .before .before .before .before .before .before .before .before .args in
-    let h : listRefusal (a .n) (a .e) (a .start) (a .list .now) ≡ Refuses (c .before .found .given .0 .0) = cc in
-    let w = write-refused _ _ _ _ (a .out .now) _ h in
-    (ap (λ (x : Written). x .says) (sym w), ap (λ (x : Written). x .out) (sym w))
+returns c = call-refused _ _ _ _ _ _ (sym (c .before .before .before .test .ensures) ∙ c .before .found .given .1)
 
 enum-told : tie.Need-enum-told
 enum-told c = search needs
@@ -39,38 +24,27 @@ add-size : tie.Need-add-size
 add-size c = search needs
 
 returns-2 : tie.Need-returns-2
-returns-2 c =
-    let a = c .before .before .before .before .before .before .before .before .before .args in
-    let h : listRefusal (a .n) (a .e) (a .start) (a .list .now) ≡ Clear = cc in
-    let w = write-short _ _ _ _ (a .out .now) h (c .if1 .taken) in
-    (ap (λ (x : Written). x .says) (sym w), ap (λ (x : Written). x .out) (sym w))
+returns-2 c = call-short _ _ _ _ _ (sym (c .before .before .before .test .ensures) ∙ c .before .enum-told .given .1) (c .if1 .taken)
 
 put-table-requires : tie.Need-put-table-requires
 put-table-requires c κs =
-    let a = c .before .before .before .before .before .before .before .before .before .before .args in
-    let h : listRefusal (a .n) (a .e) (a .start) (a .list .now) ≡ Clear = cc in
-    (omega arith, (sayable _ _ _ _ h .limits .moves, sayable _ _ _ _ h .threes))
+    let g = sayable _ _ _ _ (sym (c .before .before .before .before .test .ensures) ∙ c .before .before .enum-told .given .1) in
+    (omega arith, (g .limits .moves, g .threes))
 
 same-length : tie.Need-same-length
 same-length c = search needs
 
 returns-3 : tie.Need-returns-3
 returns-3 c =
-    let a = c .before .before .before .before .before .before .before .before .before .before .before .before .before .args in
-    let h : listRefusal (a .n) (a .e) (a .start) (a .list .now) ≡ Clear = cc in
-    let w = write-done _ _ _ _ (a .out .now) h (c .before .before .before .before .if1 .left) in (
-      ap (λ (x : Written). x .says) (sym w),
-      c .before .before .put-table .ensures
-          ∙ ap (λ (x : Written). x .out) (sym w),
-    )
+    call-done _ _ _ _ _ _
+    (sym (c .before .before .before .before .before .before .before .test .ensures) ∙ c .before .before .before .before .before .enum-told .given .1)
+    (c .before .before .before .before .if1 .left)
+    (c .before .before .put-table .ensures)
 
 pub write-spec : {M : Type 1} → statement M
 write-spec =
     tie.close
     (tie.spec
-    wide16-requires
-    wide16-requires-2
-    wide16-requires-3
     test-requires
     enum-known-found
     returns
