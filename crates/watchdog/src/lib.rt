@@ -1,0 +1,3 @@
+// The watchdog of a rule.
+pub mod ask;
+pub mod put;
