@@ -1,0 +1,9 @@
+pub mod Drawing
+pub mod Numbers
+pub mod Led
+pub mod Members
+pub mod Upwards
+pub mod Whole
+pub mod Making
+pub mod Unique
+pub mod Examples

@@ -1,0 +1,53 @@
+use borrow.Author.Needs.{needs}
+use mathlib.Core.Path.{_≡_, refl}
+use Prim.Native.Nat.{_-_, _≤_}
+use lib.ListN.{length, take}
+use Rattle.lines.specs.Pen.{Draws}
+use Rattle.lines.proofs.Drawing.{draws-none, draws-next, draws-all}
+use Rattle.lines.proofs.pen.word.Statement.{statement}
+use Rattle.lines.proofs.pen.word.Tie as tie
+
+abbrev Inv-loop : tie.InvT-loop
+Inv-loop text out₀ p₀ i₀ out p i = (i ≤ length text) × (length out ≡ length out₀) × Draws (take i text) p₀ out₀ p out
+
+abbrev μ-loop : tie.MeasureT-loop
+μ-loop text out₀ p₀ i₀ out p i = length text - i
+
+loop-holds : tie.Need-loop-holds Inv-loop μ-loop
+loop-holds c = (search needs, refl, draws-none _ _)
+
+shared-slice-read-byte : tie.Need-shared-slice-read-byte Inv-loop μ-loop
+shared-slice-read-byte c = search needs
+
+byte-requires : tie.Need-byte-requires Inv-loop μ-loop
+byte-requires c κs = search needs
+
+add-i : tie.Need-add-i Inv-loop μ-loop
+add-i c = search needs
+
+loop-less : tie.Need-loop-less Inv-loop μ-loop
+loop-less c = search needs
+
+loop-again : tie.Need-loop-again Inv-loop μ-loop
+loop-again c = (search needs, search needs, draws-next _ _ (c .before .before .before .before .before .loop-test .taken) (c .before .before .before .before .before .before .loop .inv .2) (c .before .before .byte .ensures))
+
+same-length : tie.Need-same-length Inv-loop μ-loop
+same-length c = search needs
+
+returns : tie.Need-returns Inv-loop μ-loop
+returns c = draws-all _ _ (c .loop-test .left) (c .before .loop .inv .2)
+
+pub word-spec : {M : Type 1} → statement M
+word-spec =
+    tie.close
+    (tie.spec
+    Inv-loop
+    μ-loop
+    loop-holds
+    shared-slice-read-byte
+    byte-requires
+    add-i
+    loop-less
+    loop-again
+    same-length
+    returns)
