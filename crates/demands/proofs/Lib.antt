@@ -1,0 +1,5 @@
+pub mod Grouped
+pub mod Checking
+pub mod Kept
+pub mod Watching
+pub mod Short
