@@ -1,0 +1,54 @@
+use borrow.Author.Needs.{needs}
+use Prim.Native.Nat.{_-_, _≤_}
+use lib.ListN.{length}
+use Rattle.calls.proofs.kinds.are_digits.Statement.{statement}
+use Rattle.calls.proofs.kinds.are_digits.Tie as tie
+
+abbrev Inv-loop : tie.InvT-loop
+Inv-loop field most i₀ i = i ≤ length field
+
+abbrev μ-loop : tie.MeasureT-loop
+μ-loop field most i₀ i = length field - i
+
+returns : tie.Need-returns Inv-loop μ-loop
+returns c = search needs
+
+loop-holds : tie.Need-loop-holds Inv-loop μ-loop
+loop-holds c = search needs
+
+shared-slice-read-is-digit : tie.Need-shared-slice-read-is-digit Inv-loop μ-loop
+shared-slice-read-is-digit c = search needs
+
+is-digit-requires : tie.Need-is-digit-requires Inv-loop μ-loop
+is-digit-requires c κs = search needs
+
+returns-2 : tie.Need-returns-2 Inv-loop μ-loop
+returns-2 c = search needs
+
+add-i : tie.Need-add-i Inv-loop μ-loop
+add-i c = search needs
+
+loop-less : tie.Need-loop-less Inv-loop μ-loop
+loop-less c = search needs
+
+loop-again : tie.Need-loop-again Inv-loop μ-loop
+loop-again c = search needs
+
+returns-3 : tie.Need-returns-3 Inv-loop μ-loop
+returns-3 c = search needs
+
+pub are-digits-spec : {M : Type 1} → statement M
+are-digits-spec =
+    tie.close
+    (tie.spec
+    Inv-loop
+    μ-loop
+    returns
+    loop-holds
+    shared-slice-read-is-digit
+    is-digit-requires
+    returns-2
+    add-i
+    loop-less
+    loop-again
+    returns-3)

@@ -1,0 +1,51 @@
+use borrow.Author.Needs.{needs}
+use mathlib.Core.Path.{_≡_}
+use Prim.Native.Nat.{_-_, _≤_}
+use lib.ListN.{length}
+use Rattle.calls.proofs.taken_in.Statement.{statement}
+use Rattle.calls.proofs.taken_in.Tie as tie
+
+abbrev Inv-loop : tie.InvT-loop
+Inv-loop block n line₀ k₀ i₀ line k i = (i ≤ length block) × ((length line ≡ length line₀) × (k ≤ length line₀))
+
+abbrev μ-loop : tie.MeasureT-loop
+μ-loop block n line₀ k₀ i₀ line k i = length block - i
+
+loop-holds : tie.Need-loop-holds Inv-loop μ-loop
+loop-holds c = search needs
+
+shared-slice-read-taken : tie.Need-shared-slice-read-taken Inv-loop μ-loop
+shared-slice-read-taken c = search needs
+
+taken-requires : tie.Need-taken-requires Inv-loop μ-loop
+taken-requires c κs = search needs
+
+add-i : tie.Need-add-i Inv-loop μ-loop
+add-i c = search needs
+
+loop-less : tie.Need-loop-less Inv-loop μ-loop
+loop-less c = search needs
+
+loop-again : tie.Need-loop-again Inv-loop μ-loop
+loop-again c = search needs
+
+same-length : tie.Need-same-length Inv-loop μ-loop
+same-length c = search needs
+
+returns : tie.Need-returns Inv-loop μ-loop
+returns c = search needs
+
+pub taken-in-spec : {M : Type 1} → statement M
+taken-in-spec =
+    tie.close
+    (tie.spec
+    Inv-loop
+    μ-loop
+    loop-holds
+    shared-slice-read-taken
+    taken-requires
+    add-i
+    loop-less
+    loop-again
+    same-length
+    returns)
