@@ -1,6 +1,6 @@
 -- What the first tests find, one after the other; and what holds where they find nothing.
 use mathlib.Core.Path.{_≡_, refl, ap, sym, _∙_}
-use mathlib.Core.Logic.{_≢_}
+use mathlib.Core.Logic.{_⊎_, inl, inr, _≢_}
 use mathlib.Core.Bool.{Bool, true, false}
 use mathlib.Core.List.{List}
 use Prim.Native.Nat.{ℕ, zero, suc, _≤_, _<_}
@@ -99,3 +99,31 @@ let-in-all r f mode short h =
       states-upto = ltb-false 64 (states r) (e .0);
       long = g .0;
     }
+
+-- Two good tables and a mode that is allowed are turned away by 9, 10 or 11 only.
+when-turned :
+    (b : Bool) (w k : ℕ) (later : Turned) (v j : ℕ) → when b w k later ≡ turned v j → (k ≡ j) ⊎ (later ≡ turned v j)
+when-turned true w k later v j h = inl (cc)
+when-turned false w k later v j h = inr h
+
+pub good-turned :
+    (r f : List ℕ) (mode : ℕ) (short : Bool) → mode ≤ 1 → refusal r ≡ Clear → refusal f ≡ Clear → (w k : ℕ) →
+    tests r f mode short ≡ turned w k → (9 ≤ k) × (k ≤ 11)
+unfolding tests
+good-turned r f mode short m cr cf w k h =
+    nine (when-turned (otherEvents r f) call 9 (when (manyStates r) rule 10 (when short call 11 let-in)) w k left)
+  where
+    left : when (otherEvents r f) call 9 (when (manyStates r) rule 10 (when short call 11 let-in)) ≡ turned w k
+    left = rw (allowed mode m, cr, cf) at h
+
+    eleven : (11 ≡ k) ⊎ (let-in ≡ turned w k) → (9 ≤ k) × (k ≤ 11)
+    eleven (inl e) = (omega arith, omega arith)
+    eleven (inr e) = absurd (let z : _≡_ {A = ℕ} 0 1 = cc in omega arith)
+
+    ten : (10 ≡ k) ⊎ (when short call 11 let-in ≡ turned w k) → (9 ≤ k) × (k ≤ 11)
+    ten (inl e) = (omega arith, omega arith)
+    ten (inr e) = eleven (when-turned short call 11 let-in w k e)
+
+    nine : (9 ≡ k) ⊎ (when (manyStates r) rule 10 (when short call 11 let-in) ≡ turned w k) → (9 ≤ k) × (k ≤ 11)
+    nine (inl e) = (omega arith, omega arith)
+    nine (inr e) = ten (when-turned (manyStates r) rule 10 (when short call 11 let-in) w k e)
