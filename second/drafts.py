@@ -19,7 +19,7 @@ class Draft:
         self.last = 0
         self.extra = b""  # after the last move
         self.length = None  # where the bytes are cut off, if they are
-        self.flip = (0, 0)  # a place, and which bits of its byte are turned
+        self.flip = (0, 0)  # a place, counted round where moves are taken out later, and which bits of its byte are turned
 
     def copy(self):
         twin = Draft(self.states, self.events, self.start, [])
@@ -39,7 +39,7 @@ class Draft:
         fields = [number & 0xFFFF for number in header + self.numbers()]
         data = bytearray(struct.pack(f"<{len(fields)}H", *fields))
         place, bits = self.flip
-        data[place] ^= bits
+        data[place % len(data)] ^= bits
         return (bytes(data) + self.extra)[: self.length]
 
 
