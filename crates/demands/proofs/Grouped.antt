@@ -32,8 +32,9 @@ parts (suc n) k x h = go (decLt x k) (λ l. parts n k (x - k) l)
         record { p = suc (g .p); q = g .q; p-below = b; q-below = g .q-below; is = e }
 
 -- A joined table beside another system: where its state is a pair's number, the pair may be put for it, and back.
-module _ (a b ab : Table) (X : ℕ → Bool) (j : Joined a b X ab) (C : Lts) where
-  record First (x : ℕ) (r : C .State) (e y : ℕ) (r′ : C .State) : Type 0 where
+module _ (a b ab : Table) (X : ℕ → Bool) (j : Joined a b X ab) where
+  -- x and y are the numbers of two pairs, of which the first Goes to the second
+  record Pairs (Goes : ℕ × ℕ → ℕ × ℕ → Type 0) (x y : ℕ) : Type 0 where
     p : ℕ
     q : ℕ
     p′ : ℕ
@@ -42,10 +43,13 @@ module _ (a b ab : Table) (X : ℕ → Bool) (j : Joined a b X ab) (C : Lts) whe
     q-below : q < b .n
     x-is : x ≡ p * b .n + q
     y-is : y ≡ p′ * b .n + q′
-    by : JoinMove (join (lts a) (lts b) X) C X (p, q) r e (p′, q′) r′
+    by : Goes (p, q) (p′, q′)
 
-  first-pair : {x y e : ℕ} {r r′ : C .State} → x < a .n * b .n → JoinMove (lts ab) C X x r e y r′ → First x r e y r′
-  first-pair l (left s m) =
+  -- the joined table moves
+  moves :
+      {Goes : ℕ × ℕ → ℕ × ℕ → Type 0} {x e y : ℕ} →
+      ((p q p′ q′ : ℕ) → JoinMove (lts a) (lts b) X p q e p′ q′ → Goes (p, q) (p′, q′)) → (lts ab) .move x e y → Pairs Goes x y
+  moves f m =
       let g = j .sound m in
       record {
         p = g .p;
@@ -56,9 +60,12 @@ module _ (a b ab : Table) (X : ℕ → Bool) (j : Joined a b X ab) (C : Lts) whe
         q-below = g .q-below;
         x-is = g .x-is;
         y-is = g .y-is;
-        by = left s (g .by);
+        by = f (g .p) (g .q) (g .p′) (g .q′) (g .by);
       }
-  first-pair {x} l (right s m) =
+
+  -- it stays
+  stays : {Goes : ℕ × ℕ → ℕ × ℕ → Type 0} {x : ℕ} → ((z : ℕ × ℕ) → Goes z z) → x < a .n * b .n → Pairs Goes x x
+  stays {x = x} f l =
       let g = parts (a .n) (b .n) x l in
       record {
         p = g .p;
@@ -69,20 +76,7 @@ module _ (a b ab : Table) (X : ℕ → Bool) (j : Joined a b X ab) (C : Lts) whe
         q-below = g .q-below;
         x-is = g .is;
         y-is = g .is;
-        by = right s m;
-      }
-  first-pair l (both s m n) =
-      let g = j .sound m in
-      record {
-        p = g .p;
-        q = g .q;
-        p′ = g .p′;
-        q′ = g .q′;
-        p-below = g .p-below;
-        q-below = g .q-below;
-        x-is = g .x-is;
-        y-is = g .y-is;
-        by = both s (g .by) n;
+        by = f (g .p, g .q);
       }
 
   one-move :
@@ -91,73 +85,36 @@ module _ (a b ab : Table) (X : ℕ → Bool) (j : Joined a b X ab) (C : Lts) whe
   one-move {p} {q} {p′} {q′} h k m =
       record { p = p; q = q; p′ = p′; q′ = q′; p-below = h; q-below = k; x-is = refl; y-is = refl; by = m }
 
-  first-number :
-      {e : ℕ} {x y : ℕ × ℕ} {r r′ : C .State} → x .0 < a .n → x .1 < b .n →
-      JoinMove (join (lts a) (lts b) X) C X x r e y r′ →
-      JoinMove (lts ab) C X (x .0 * b .n + x .1) r e (y .0 * b .n + y .1) r′
-  first-number h k (left s m) = left s (j .whole (one-move h k m))
-  first-number h k (right s m) = right s m
-  first-number h k (both s m n) = both s (j .whole (one-move h k m)) n
+  module _ (C : Lts) where
+    first-pair :
+        {x y e : ℕ} {r r′ : C .State} → x < a .n * b .n → JoinMove (lts ab) C X x r e y r′ →
+        Pairs (λ u v. JoinMove (join (lts a) (lts b) X) C X u r e v r′) x y
+    first-pair l (left s m) = moves (λ p q p′ q′ k. left s k) m
+    first-pair l (right s m) = stays (λ z. right s m) l
+    first-pair l (both s m n) = moves (λ p q p′ q′ k. both s k n) m
 
-  record Second (r : C .State) (x e : ℕ) (r′ : C .State) (y : ℕ) : Type 0 where
-    p : ℕ
-    q : ℕ
-    p′ : ℕ
-    q′ : ℕ
-    p-below : p < a .n
-    q-below : q < b .n
-    x-is : x ≡ p * b .n + q
-    y-is : y ≡ p′ * b .n + q′
-    by : JoinMove C (join (lts a) (lts b) X) X r (p, q) e r′ (p′, q′)
+    second-pair :
+        {x y e : ℕ} {r r′ : C .State} → x < a .n * b .n → JoinMove C (lts ab) X r x e r′ y →
+        Pairs (λ u v. JoinMove C (join (lts a) (lts b) X) X r u e r′ v) x y
+    second-pair l (right s m) = moves (λ p q p′ q′ k. right s k) m
+    second-pair l (left s m) = stays (λ z. left s m) l
+    second-pair l (both s m n) = moves (λ p q p′ q′ k. both s m k) n
 
-  second-pair : {x y e : ℕ} {r r′ : C .State} → x < a .n * b .n → JoinMove C (lts ab) X r x e r′ y → Second r x e r′ y
-  second-pair l (right s m) =
-      let g = j .sound m in
-      record {
-        p = g .p;
-        q = g .q;
-        p′ = g .p′;
-        q′ = g .q′;
-        p-below = g .p-below;
-        q-below = g .q-below;
-        x-is = g .x-is;
-        y-is = g .y-is;
-        by = right s (g .by);
-      }
-  second-pair {x} l (left s m) =
-      let g = parts (a .n) (b .n) x l in
-      record {
-        p = g .p;
-        q = g .q;
-        p′ = g .p;
-        q′ = g .q;
-        p-below = g .p-below;
-        q-below = g .q-below;
-        x-is = g .is;
-        y-is = g .is;
-        by = left s m;
-      }
-  second-pair l (both s m n) =
-      let g = j .sound n in
-      record {
-        p = g .p;
-        q = g .q;
-        p′ = g .p′;
-        q′ = g .q′;
-        p-below = g .p-below;
-        q-below = g .q-below;
-        x-is = g .x-is;
-        y-is = g .y-is;
-        by = both s m (g .by);
-      }
+    first-number :
+        {e : ℕ} {x y : ℕ × ℕ} {r r′ : C .State} → x .0 < a .n → x .1 < b .n →
+        JoinMove (join (lts a) (lts b) X) C X x r e y r′ →
+        JoinMove (lts ab) C X (x .0 * b .n + x .1) r e (y .0 * b .n + y .1) r′
+    first-number h k (left s m) = left s (j .whole (one-move h k m))
+    first-number h k (right s m) = right s m
+    first-number h k (both s m n) = both s (j .whole (one-move h k m)) n
 
-  second-number :
-      {e : ℕ} {x y : ℕ × ℕ} {r r′ : C .State} → x .0 < a .n → x .1 < b .n →
-      JoinMove C (join (lts a) (lts b) X) X r x e r′ y →
-      JoinMove C (lts ab) X r (x .0 * b .n + x .1) e r′ (y .0 * b .n + y .1)
-  second-number h k (left s m) = left s m
-  second-number h k (right s m) = right s (j .whole (one-move h k m))
-  second-number h k (both s m n) = both s m (j .whole (one-move h k n))
+    second-number :
+        {e : ℕ} {x y : ℕ × ℕ} {r r′ : C .State} → x .0 < a .n → x .1 < b .n →
+        JoinMove C (join (lts a) (lts b) X) X r x e r′ y →
+        JoinMove C (lts ab) X r (x .0 * b .n + x .1) e r′ (y .0 * b .n + y .1)
+    second-number h k (left s m) = left s m
+    second-number h k (right s m) = right s (j .whole (one-move h k m))
+    second-number h k (both s m n) = both s m (j .whole (one-move h k n))
 
 module _ (a b c ab bc : Table) (X : ℕ → Bool) (jab : Joined a b X ab) (jbc : Joined b c X bc) where
   -- the number of a triple, grouped either way

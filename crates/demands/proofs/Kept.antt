@@ -14,7 +14,7 @@ use Rattle.tables.proofs.Proper.{fits}
 use Rattle.tables.proofs.Same.{Alike, tables-same}
 use Rattle.joins.specs.Joining.{Made}
 use Rattle.joins.proofs.Unique.{join-made}
-use Rattle.demands.specs.Calls.{JoinWrote}
+use Rattle.demands.specs.Calls.{JoinWrote, WillPass}
 use Rattle.demands.specs.Promises.{PartsApart, AgainstItself, ThroughAChain, AnotherOrder, AnotherGrouping, AssumeGuarantee}
 use Rattle.demands.proofs.Grouped.{move-right, move-left}
 use Rattle.demands.proofs.Checking.{passed, will-pass}
@@ -93,11 +93,18 @@ module _ (X : ℕ) (a b c ab bc l r : List ℕ) (jab : JoinIs a b X ab) (jbc : J
   }
 
 pub another-grouping : AnotherGrouping
-another-grouping X a b c ab bc l r wab wbc wl wr =
-    let jl = join-is wl in
-    let jr = join-is wr in
-    tables-same l r (jl .made .bytes) (jr .made .bytes) (jl .made .good) (jr .made .good)
-    (alike X a b c ab bc l r (join-is wab) (join-is wbc) jl jr)
+another-grouping X a b c ab bc l r wab wbc wl wr = record {
+  bytes = same;
+  there = λ mode. subst (λ (t : List ℕ). WillPass mode t l) same (against-itself mode l);
+  back = λ mode. subst (λ (t : List ℕ). WillPass mode l t) same (against-itself mode l);
+}
+  where
+    same : l ≡ r
+    same =
+        let jl = join-is wl in
+        let jr = join-is wr in
+        tables-same l r (jl .made .bytes) (jr .made .bytes) (jl .made .good) (jr .made .good)
+        (alike X a b c ab bc l r (join-is wab) (join-is wbc) jl jr)
 
 pub assume-guarantee : AssumeGuarantee
 assume-guarantee mode X m₁ m₂ a p am mm h wa g wm =

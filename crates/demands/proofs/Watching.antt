@@ -81,26 +81,30 @@ calls-agree rule flow t h = record {
       pass-excludes 0 (lts (tableOf flow)) (lts (tableOf rule)) (offers? (tableOf flow)) (passed p .passes) (f .0) (of-trace (f .1));
 }
 
+-- .. and that may be known of the join that the table is one of, on events 1 to E.
+through :
+    (rule flow t : List ℕ) (X : ℕ) (A B : Lts) → OneTo (events rule) X → Bisim (join A B (has X)) (lts (tableOf t)) →
+    Can (join A B (upTo (events rule))) (suc (events rule)) ↔
+    ((s : List ℕ) × TraceFault (lts (tableOf flow)) (lts (tableOf rule)) s) → Watched rule flow t
+through rule flow t X A B one b th =
+    let c = sets-bisim A B (has X) (upTo (events rule)) (one-to (events rule) X one) in
+    calls-agree rule flow t
+    (λ k. th .0 (can-forth c (can-forth (bisim-sym b) k)), λ f. can-forth b (can-forth (bisim-sym c) (th .1 f)))
+
 pub watchdog-goes-first : WatchdogFirst
 watchdog-goes-first rule flow dog t X same one w j =
     let d = dog-is w in
     let g = join-is j in
-    let b = made-bisim dog flow (g .first-good) (g .second-good) (g .made) in
-    let c = sets-bisim (lts (tableOf dog)) (lts (tableOf flow)) (has X) (upTo (events rule)) (one-to (events rule) X one) in
-    let th =
-    watchdog-first (tableOf rule) (d .made .nodes) (tableOf dog) (d .made .watches) (tableOf flow) (fits flow (g .second-good))
-    (fits rule (d .good)) same (d .made .normal) in
-    calls-agree rule flow t
-    (λ k. th .0 (can-forth c (can-forth (bisim-sym b) k)), λ f. can-forth b (can-forth (bisim-sym c) (th .1 f)))
+    through rule flow t X (lts (tableOf dog)) (lts (tableOf flow)) one
+    (made-bisim dog flow (g .first-good) (g .second-good) (g .made))
+    (watchdog-first (tableOf rule) (d .made .nodes) (tableOf dog) (d .made .watches) (tableOf flow) (fits flow (g .second-good))
+    (fits rule (d .good)) same (d .made .normal))
 
 pub watchdog-goes-second : WatchdogSecond
 watchdog-goes-second rule flow dog t X same one w j =
     let d = dog-is w in
     let g = join-is j in
-    let b = made-bisim flow dog (g .first-good) (g .second-good) (g .made) in
-    let c = sets-bisim (lts (tableOf flow)) (lts (tableOf dog)) (has X) (upTo (events rule)) (one-to (events rule) X one) in
-    let th =
-    watchdog-second (tableOf rule) (d .made .nodes) (tableOf dog) (d .made .watches) (tableOf flow) (fits flow (g .first-good))
-    (fits rule (d .good)) same (d .made .normal) in
-    calls-agree rule flow t
-    (λ k. th .0 (can-forth c (can-forth (bisim-sym b) k)), λ f. can-forth b (can-forth (bisim-sym c) (th .1 f)))
+    through rule flow t X (lts (tableOf flow)) (lts (tableOf dog)) one
+    (made-bisim flow dog (g .first-good) (g .second-good) (g .made))
+    (watchdog-second (tableOf rule) (d .made .nodes) (tableOf dog) (d .made .watches) (tableOf flow) (fits flow (g .first-good))
+    (fits rule (d .good)) same (d .made .normal))

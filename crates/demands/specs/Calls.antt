@@ -51,17 +51,20 @@ pub record Broke (mode : ℕ) (rule flow : List ℕ) : Type 0 where
   pub length : ℕ
   pub checked : Checked mode rule flow (TraceFault length)
 
--- Every check, whatever is lent to it, answers so or refuses.
+-- passes, or refused
 pub data PassOrRefusal : Verdict → Type 0 where
   pass : {nodes pairs : ℕ} → PassOrRefusal (Passes nodes pairs)
   refusal : {w : _} → PassOrRefusal (Refused w)
 
+-- a trace fault, or refused
 pub data BreakOrRefusal : Verdict → Type 0 where
   break : {length : ℕ} → BreakOrRefusal (TraceFault length)
   refusal : {w : _} → BreakOrRefusal (Refused w)
 
+-- Every check, whatever is lent to it, answers passes or refuses.
 abbrev pub WillPass : ℕ → List ℕ → List ℕ → Type 0
 WillPass mode rule flow = (v : Verdict) → Checked mode rule flow v → PassOrRefusal v
 
+-- Every check, whatever is lent to it, answers a trace fault or refuses.
 abbrev pub WillBreak : ℕ → List ℕ → List ℕ → Type 0
 WillBreak mode rule flow = (v : Verdict) → Checked mode rule flow v → BreakOrRefusal v

@@ -34,10 +34,16 @@ ThroughAChain = (mode : ℕ) (a b c : List ℕ) → Passed mode b a → Passed m
 abbrev pub AnotherOrder : Type 0
 AnotherOrder = (mode X : ℕ) (a b ab ba : List ℕ) → JoinWrote a b X ab → JoinWrote b a X ba → WillPass mode ba ab
 
--- ".. or grouping": the two tables are the same bytes
+-- ".. or grouping": the two tables are the same bytes, and so they pass against each other
+pub record SameTable (l r : List ℕ) : Type 0 where
+  pub bytes : l ≡ r
+  pub there : (mode : ℕ) → WillPass mode r l
+  pub back : (mode : ℕ) → WillPass mode l r
+
 abbrev pub AnotherGrouping : Type 0
 AnotherGrouping =
-    (X : ℕ) (a b c ab bc l r : List ℕ) → JoinWrote a b X ab → JoinWrote b c X bc → JoinWrote ab c X l → JoinWrote a bc X r → l ≡ r
+    (X : ℕ) (a b c ab bc l r : List ℕ) → JoinWrote a b X ab → JoinWrote b c X bc → JoinWrote ab c X l → JoinWrote a bc X r →
+    SameTable l r
 
 -- X names the events 1 to E.
 abbrev pub OneTo : ℕ → ℕ → Type 0
@@ -50,12 +56,13 @@ pub record Watched (rule flow t : List ℕ) : Type 0 where
   pub broke : Broke 0 rule flow → Can (lts (tableOf t)) (suc (events rule))
   pub silent : Passed 0 rule flow → Can (lts (tableOf t)) (suc (events rule)) → ⊥
 
--- "Joined on events 1 to E with a flow of the rule's E": with the watchdog as the first table and as the second
+-- "Joined on events 1 to E with a flow of the rule's E": with the watchdog as the first table
 abbrev pub WatchdogFirst : Type 0
 WatchdogFirst =
     (rule flow dog t : List ℕ) (X : ℕ) → events flow ≡ events rule → OneTo (events rule) X → WatchdogWrote rule dog →
     JoinWrote dog flow X t → Watched rule flow t
 
+-- .. and as the second
 abbrev pub WatchdogSecond : Type 0
 WatchdogSecond =
     (rule flow dog t : List ℕ) (X : ℕ) → events flow ≡ events rule → OneTo (events rule) X → WatchdogWrote rule dog →
