@@ -1,5 +1,5 @@
 // Digits, from `0` to `9` and on from `a` to `f`.
-ghost use Prim.Native.Nat.{_<_, _≤_};
+ghost use Prim.Native.Nat.{_<_};
 
 pub fn is_digit(b: u8) -> bool {
     if b < 58 {

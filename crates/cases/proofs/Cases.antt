@@ -15,9 +15,9 @@ use Rattle.csp.proofs.JudgingJoins.{joined}
 use Rattle.csp.proofs.JudgingWatchdogs.{watched}
 use Rattle.tables.specs.Numbers.{bytes}
 use Rattle.tables.specs.Tests.{some as any}
-use Rattle.tables.specs.Moves.{moveAt, misnames, precedes, circles, misnamed, disordered, circling}
+use Rattle.tables.specs.Moves.{moveAt}
 use Rattle.tables.specs.Bytes.{row, tableOf, threes, encoded}
-use Rattle.tables.specs.Valid.{outside, misframed, laterTests, refusal}
+use Rattle.tables.specs.Valid.{outside, misframed, laterTests, refusal, misnames, precedes, circles, misnamed, disordered, circling}
 use Rattle.tables.specs.declared.answer.Test.{Test}
 use Rattle.tables.specs.declared.answer.Test.the-variants.{Clear, Refuses}
 use Rattle.tables.proofs.Proper.{fits}

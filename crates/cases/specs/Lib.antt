@@ -1,3 +1,3 @@
--- In the order a newcomer would read them.
+-- In the order a newcomer would read them: the tables, and the cases over them.
 pub mod Tables
 pub mod Cases

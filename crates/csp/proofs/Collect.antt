@@ -4,13 +4,13 @@ use mathlib.Core.Logic.{_⊎_, inl, inr}
 use mathlib.Core.List.{List, [], _∷_}
 use Prim.Native.Nat.{ℕ, zero, suc, _<_}
 use native.Mathlib.Omega.{arith}
-use native.Mathlib.Decide.{ℕ-discrete, decLt}
+use native.Mathlib.Decide.{ℕ-discrete}
 use Rattle.sets.specs.Least.{NoHigher}
 use Rattle.sets.proofs.Laws.{no-higher-refl, no-higher-trans, no-higher-total}
 use Rattle.csp.specs.Numbered.{At, head, tail, Stands, Once, Before, lower, level}
 use Rattle.csp.proofs.Places.{at-below}
 use Rattle.csp.proofs.Numbering.{before-not-back}
-use Rattle.csp.proofs.Finding.{before-suc, before-grow, before-row}
+use Rattle.csp.proofs.Finding.{before-suc, before-grow, before-row, before-end}
 use Rattle.csp.proofs.Testing.{once-cons, at-pick}
 
 -- the pairs before (i, q) that have P
@@ -83,17 +83,9 @@ module _ (n : ℕ) (P : ℕ → ℕ → Type 0) (d : (i q : ℕ) → Dec (P i q)
     record {
       once = c .1 .once;
       sound = λ k p h. let g = c .1 .sound k p h in (g .0, before-row (g .1));
-      whole = λ j r h b p. c .1 .whole j r h (back b h) p;
+      whole = λ j r h b p. c .1 .whole j r h (before-end b h) p;
     },
   )
-    where
-      back : {j r : ℕ} → Before j r (suc i) 0 → r < n → Before j r i n
-      back {j} {r} (lower p) q = go (decLt j i)
-        where
-          go : Dec (j < i) → Before j r i n
-          go (yes m) = lower m
-          go (no m) = let e : i ≡ j = omega arith in subst (λ (x : ℕ). Before j r x n) (sym e) (level q)
-      back (level p) q = absurd (omega arith)
 
   pub collect : (i : ℕ) → Collection n P i 0
   collect zero = start

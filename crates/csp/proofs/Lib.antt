@@ -23,7 +23,6 @@ pub mod Short
 pub mod Product
 pub mod Closed
 pub mod PairFaults
-pub mod Settled
 -- The right verdict: at most one, and always one.
 pub mod Unique
 pub mod Testing

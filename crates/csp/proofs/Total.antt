@@ -12,7 +12,7 @@ use Rattle.csp.specs.Table.{Table, lts, Fits}
 use Rattle.sets.specs.Least.{NoHigher}
 use Rattle.csp.specs.Numbered.{lower}
 use Rattle.csp.specs.Normal.{NormalForm}
-use Rattle.csp.specs.Verdict.{Verdict, passes, trace-fault, refusal-fault, Met, MetPairs, LeastOffers, Right, right-pass, right-trace, right-refusal}
+use Rattle.csp.specs.Verdict.{Verdict, passes, trace-fault, refusal-fault, traceOf, Met, MetPairs, LeastOffers, Right, right-pass, right-trace, right-refusal}
 use Rattle.csp.proofs.Ordering.{upto-trans}
 use Rattle.csp.proofs.Tables.{pass-iff, stays-below}
 use Rattle.sets.proofs.Laws.{holds-only}
@@ -59,16 +59,10 @@ pass-or-fault m flow rule fi fs =
     let F = form-exists rule fs in
     by-least m flow rule fi fs (F .0) (F .1) (least-word (flow .E) (suc (length (F .0) * flow .n)) (Fault m (lts flow) (lts rule)) (fault? m flow rule fi fs))
 
--- The length of the trace of a verdict.
-abbrev pub trace-length : Verdict → ℕ
-trace-length (passes n p) = 0
-trace-length (trace-fault s) = length s
-trace-length (refusal-fault s o) = length s
-
 -- "No fault's trace is longer than nodes × flow states": of the reported one.
 pub right-short :
     (m : ℕ) (flow rule : Table) → Fits flow → Fits rule → (nodes : List ℕ) → NormalForm rule nodes → (v : Verdict) →
-    Right m flow rule v → trace-length v ≤ length nodes * flow .n
+    Right m flow rule v → length (traceOf v) ≤ length nodes * flow .n
 right-short m flow rule fi fs nodes N _ (right-pass l p q M c) = omega arith
 right-short m flow rule fi fs nodes N _ (right-trace {s = s} f b) = first-fault-short flow rule fi fs nodes N m s (of-trace f) b
 right-short m flow rule fi fs nodes N _ (right-refusal {s = s} h c b) =

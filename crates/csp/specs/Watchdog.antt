@@ -1,4 +1,4 @@
--- The watchdog of a rule, over its nodes; and the watchdog as a table.
+-- The watchdog of a rule, over its nodes (k is their count); and the watchdog as a table.
 use mathlib.Core.Path.{_≡_}
 use mathlib.Core.Bool.{Bool}
 use mathlib.Core.List.{List, List·Memᴰ}
@@ -32,6 +32,6 @@ pub record Watches (rule : Table) (nodes : List ℕ) (t : Table) : Type 0 where
   pub sound : {i e j : ℕ} → List·Memᴰ (move i e j) (t .moves) → WatchMove rule nodes i e j
   pub whole : {i e j : ℕ} → WatchMove rule nodes i e j → List·Memᴰ (move i e j) (t .moves)
 
--- "on events 1 to E" (the silent event is never shared)
+-- "Joined on events 1 to E": the set that the law on watchdogs joins on (the silent event is never shared)
 abbrev pub upTo : ℕ → ℕ → Bool
 upTo E e = leb e E

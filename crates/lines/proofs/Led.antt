@@ -14,7 +14,7 @@ use Rattle.lines.specs.Pen.{isOver, Draws, led}
 use Rattle.lines.specs.declared.pen.Pen.{Pen}
 use Rattle.lines.proofs.Drawing.{draws-none, draws-then, draws-over}
 
-led-append : (f g : List Field) → led (f ++ g) ≡ led f ++ led g
+pub led-append : (f g : List Field) → led (f ++ g) ≡ led f ++ led g
 unfolding led
 led-append [] g = refl
 led-append (a ∷ f) g =
@@ -38,7 +38,7 @@ pub one-number : (n : ℕ) → space ∷ decimal n ≡ led (number n ∷ [])
 unfolding led
 one-number n = ap (λ (l : List ℕ). space ∷ l) (sym (append-nil (decimal n)))
 
-events-append : (s t : List ℕ) → events (s ++ t) ≡ events s ++ events t
+pub events-append : (s t : List ℕ) → events (s ++ t) ≡ events s ++ events t
 events-append [] t = refl
 events-append (e ∷ s) t = ap (λ (l : List Field). number e ∷ l) (events-append s t)
 

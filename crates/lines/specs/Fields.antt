@@ -10,10 +10,12 @@ pub data Field : Type 0 where
   word : String → Field
   number : ℕ → Field
 
+-- "numbers in decimal"
 abbrev pub bytesOf : Field → List ℕ
 bytesOf (word w) = letters w
 bytesOf (number n) = decimal n
 
+-- the two bytes that stand between and after fields
 abbrev pub space : ℕ
 space = code " "
 

@@ -11,6 +11,7 @@ use Rattle.lines.specs.Report.{reportLine}
 use Rattle.lines.specs.declared.answer.Line.{Line}
 use Rattle.lines.specs.declared.answer.Line.the-variants.{Wrote, Short}
 
+-- an answer, with what is then in the buffer
 pub record Made : Type 0 where
   pub answer : Line
   pub out : List ℕ

@@ -9,6 +9,7 @@ use Rattle.lines.specs.Fields.{Field, bytesOf, space}
 use Rattle.lines.specs.declared.pen.Pen.{Pen}
 use Rattle.lines.specs.declared.pen.Pen.the-variants.{Counts, Puts, Over}
 
+-- the pen ran out of the buffer
 abbrev pub isOver : Pen → Bool
 isOver (Counts n) = false
 isOver (Puts n) = false

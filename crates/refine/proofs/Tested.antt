@@ -1,17 +1,19 @@
 -- What the first tests find, one after the other; and what holds where they find nothing.
-use mathlib.Core.Path.{_≡_, refl, ap, sym, _∙_}
-use mathlib.Core.Logic.{_⊎_, inl, inr, _≢_}
-use mathlib.Core.Bool.{Bool, true, false}
+use mathlib.Core.Path.{_≡_, refl, ap, sym, subst₂, _∙_}
+use mathlib.Core.Logic.{_≢_}
+use mathlib.Core.Bool.{Bool, true, false, true≢false}
 use mathlib.Core.List.{List}
 use Prim.Native.Nat.{ℕ, zero, suc, _≤_, _<_}
 use native.Mathlib.Omega.{arith}
 use borrow.Author.Tests.{eqb-true, ltb-false, lt-ltb, le-ltb, eq-eqb, ne-eqb, not-false}
+use Rattle.tables.specs.Tests.{when}
 use Rattle.tables.specs.Bytes.{states, events}
 use Rattle.tables.specs.Valid.{refusal}
+use Rattle.tables.specs.Rule.{manyStates}
 use Rattle.tables.specs.Answers.{rule, flow, call}
 use Rattle.tables.specs.declared.answer.Test.{Test}
 use Rattle.tables.specs.declared.answer.Test.the-variants.{Clear, Refuses}
-use Rattle.refine.specs.Refusals.{Turned, let-in, turned, when, own, wrongMode, otherEvents, manyStates, tests}
+use Rattle.refine.specs.Refusals.{Turned, let-in, turned, own, wrongMode, otherEvents, tests}
 
 wrong : (mode : ℕ) → 1 < mode → wrongMode mode ≡ true
 wrong mode h = simp (ne-eqb mode 0 (omega arith), ne-eqb mode 1 (omega arith))
@@ -51,13 +53,13 @@ module _ (r f : List ℕ) (mode : ℕ) (short : Bool) where
             unfolding tests
             short-turned h =
                 rw (allowed mode m, cr, cf, eq-eqb (events r) (events f) e, le-ltb 64 (states r) n)
-                (ap (λ (b : Bool). when b call 11 let-in) h)
+                (ap (λ (b : Bool). when b (turned call 11) let-in) h)
 
             pub none-turned : short ≡ false → tests r f mode short ≡ let-in
             unfolding tests
             none-turned h =
                 rw (allowed mode m, cr, cf, eq-eqb (events r) (events f) e, le-ltb 64 (states r) n)
-                (ap (λ (b : Bool). when b call 11 let-in) h)
+                (ap (λ (b : Bool). when b (turned call 11) let-in) h)
 
 -- Where nothing is found, the mode is 0 or 1, both tables are good and of one E, the rule has at most 64 states, and no
 -- workspace is short.
@@ -69,7 +71,7 @@ pub record LetIn (r f : List ℕ) (mode : ℕ) (short : Bool) : Type 0 where
   pub states-upto : states r ≤ 64
   pub long : short ≡ false
 
-when-in : (b : Bool) (w k : ℕ) (later : Turned) → when b w k later ≡ let-in → (b ≡ false) × (later ≡ let-in)
+when-in : (b : Bool) (w k : ℕ) (later : Turned) → when b (turned w k) later ≡ let-in → (b ≡ false) × (later ≡ let-in)
 when-in true w k later h = absurd (let z : _≡_ {A = ℕ} 0 1 = cc in omega arith)
 when-in false w k later h = (refl, h)
 
@@ -100,30 +102,42 @@ let-in-all r f mode short h =
       long = g .0;
     }
 
--- Two good tables and a mode that is allowed are turned away by 9, 10 or 11 only.
-when-turned :
-    (b : Bool) (w k : ℕ) (later : Turned) (v j : ℕ) → when b w k later ≡ turned v j → (k ≡ j) ⊎ (later ≡ turned v j)
-when-turned true w k later v j h = inl (cc)
-when-turned false w k later v j h = inr h
+-- What turns a call away has each property that all these refusals have.
+module _ (P : ℕ → ℕ → Type 0) where
+  when-each :
+      (b : Bool) (v j : ℕ) (later : Turned) {w k : ℕ} → (b ≡ true → P v j) → (later ≡ turned w k → P w k) →
+      when b (turned v j) later ≡ turned w k → P w k
+  when-each true v j later p q h = subst₂ P (cc) (cc) (p refl)
+  when-each false v j later p q h = q h
 
+  own-each :
+      (v : ℕ) (t : Test) (later : Turned) {w k : ℕ} → ((j : ℕ) → t ≡ Refuses j → P v j) → (later ≡ turned w k → P w k) →
+      own v t later ≡ turned w k → P w k
+  own-each v (Refuses j) later p q h = subst₂ P (cc) (cc) (p j refl)
+  own-each v Clear later p q h = q h
+
+  pub turned-each :
+      (r f : List ℕ) (mode : ℕ) (short : Bool) {w k : ℕ} → (wrongMode mode ≡ true → P call 8) →
+      ((j : ℕ) → refusal r ≡ Refuses j → P rule j) → ((j : ℕ) → refusal f ≡ Refuses j → P flow j) → P call 9 → P rule 10 →
+      P call 11 → tests r f mode short ≡ turned w k → P w k
+  unfolding tests
+  turned-each r f mode short p8 pr pf p9 p10 p11 =
+      when-each (wrongMode mode) call 8 _ p8
+      (own-each rule (refusal r) _ pr
+      (own-each flow (refusal f) _ pf
+      (when-each (otherEvents r f) call 9 _ (λ h. p9)
+      (when-each (manyStates r) rule 10 _ (λ h. p10)
+      (when-each short call 11 let-in (λ h. p11) (λ h. absurd (let z : _≡_ {A = ℕ} 0 1 = cc in omega arith)))))))
+
+-- Two good tables and a mode that is allowed are turned away by 9, 10 or 11 only.
 pub good-turned :
     (r f : List ℕ) (mode : ℕ) (short : Bool) → mode ≤ 1 → refusal r ≡ Clear → refusal f ≡ Clear → (w k : ℕ) →
     tests r f mode short ≡ turned w k → (9 ≤ k) × (k ≤ 11)
-unfolding tests
-good-turned r f mode short m cr cf w k h =
-    nine (when-turned (otherEvents r f) call 9 (when (manyStates r) rule 10 (when short call 11 let-in)) w k left)
-  where
-    left : when (otherEvents r f) call 9 (when (manyStates r) rule 10 (when short call 11 let-in)) ≡ turned w k
-    left = rw (allowed mode m, cr, cf) at h
-
-    eleven : (11 ≡ k) ⊎ (let-in ≡ turned w k) → (9 ≤ k) × (k ≤ 11)
-    eleven (inl e) = (omega arith, omega arith)
-    eleven (inr e) = absurd (let z : _≡_ {A = ℕ} 0 1 = cc in omega arith)
-
-    ten : (10 ≡ k) ⊎ (when short call 11 let-in ≡ turned w k) → (9 ≤ k) × (k ≤ 11)
-    ten (inl e) = (omega arith, omega arith)
-    ten (inr e) = eleven (when-turned short call 11 let-in w k e)
-
-    nine : (9 ≡ k) ⊎ (when (manyStates r) rule 10 (when short call 11 let-in) ≡ turned w k) → (9 ≤ k) × (k ≤ 11)
-    nine (inl e) = (omega arith, omega arith)
-    nine (inr e) = ten (when-turned (manyStates r) rule 10 (when short call 11 let-in) w k e)
+good-turned r f mode short m cr cf w k =
+    turned-each (λ v j. (9 ≤ j) × (j ≤ 11)) r f mode short
+    (λ h. absurd (true≢false (sym h ∙ allowed mode m)))
+    (λ j h. absurd (let e = sym h ∙ cr in let z : _≡_ {A = ℕ} 0 1 = cc in omega arith))
+    (λ j h. absurd (let e = sym h ∙ cf in let z : _≡_ {A = ℕ} 0 1 = cc in omega arith))
+    (omega arith, omega arith)
+    (omega arith, omega arith)
+    (omega arith, omega arith)

@@ -1,6 +1,7 @@
 // The tests that come before the rule's nodes are looked for.
 ghost use mathlib.Core.Path.{_≡_};
-ghost use Rattle.refine.specs.Refusals.{turnedOf, tests};
+ghost use Rattle.refine.specs.Refusals.{tests};
+ghost use Rattle.refine.specs.Walking.{turnedOf};
 use tables::answer::Refusal;
 use tables::answer::Test;
 use tables::num::get;

@@ -1,4 +1,4 @@
--- Laws; the rooms above cite Proper, Encoded, Same, PartMoves, RoundTrip and Unique.
+-- Laws; the rooms above cite Proper, Encoded, Same, Putting, PartMoves, RoundTrip and Unique.
 pub mod Some
 pub mod Parts
 pub mod Splice
@@ -11,6 +11,7 @@ pub mod PartOf
 pub mod Named
 pub mod Proper
 pub mod Writing
+pub mod Putting
 pub mod Reading
 pub mod Encoded
 pub mod Unique

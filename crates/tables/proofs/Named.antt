@@ -6,7 +6,7 @@ use native.Mathlib.Omega.{arith}
 use lib.Dec.{ltb, leb}
 use borrow.Author.Tests.{ltb-false, leb-false, eq-eqb}
 use Rattle.csp.specs.Table.{Move}
-use Rattle.tables.specs.Moves.{misnames, misnamed, circles, circling}
+use Rattle.tables.specs.Valid.{misnames, misnamed, circles, circling}
 use Rattle.tables.proofs.Some.{or-false, some-none}
 use Rattle.tables.proofs.Rows.{Stands}
 use Rattle.tables.proofs.Tested.{Sound}

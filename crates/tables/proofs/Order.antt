@@ -1,6 +1,6 @@
 -- The order of moves, and lists of moves that stand ascending: what stands in them determines them.
 use Prim.Native.Nat.{ℕ, zero, suc, _<_, _≤_, _+_, _-_}
-use mathlib.Core.Bool.{Bool, true, false, not}
+use mathlib.Core.Bool.{Bool, true, false, cond, not}
 use mathlib.Core.Path.{_≡_, refl, sym, ap, ap₂, _∙_, subst}
 use mathlib.Core.Logic.{_⊎_, inl, inr, ⊎-elim}
 use mathlib.Core.List.{List, [], _∷_, _++_, List·Memᴰ, List·Memᴰ·head, List·Memᴰ·tail, List·Memᴰ·not-nil, List·Memᴰ·cases-cons, List·Memᴰ·append-cases, List·Memᴰ·eq-of-singleton, Memᴰ·append-left, Memᴰ·append-right}
@@ -9,15 +9,15 @@ use native.Mathlib.Nat.{eq-or-lt-of-le}
 use lib.Dec.{eqb, ltb}
 use borrow.Author.Tests.{ltb-true, eqb-true, not-false, lt-ltb, eq-eqb, ne-eqb}
 use Rattle.csp.specs.Table.{Move}
-use Rattle.tables.specs.Moves.{pick, precedes, disordered}
+use Rattle.tables.specs.Valid.{precedes, disordered}
 use Rattle.tables.specs.Order.{Before, by-from, by-event, by-to, Ascending, none, more}
 use Rattle.tables.specs.Bytes.{row}
 use Rattle.tables.proofs.Some.{some-none, some-false}
 use Rattle.tables.proofs.Rows.{in-row, of-row}
 
-pick-cases : (t a b : Bool) → pick t a b ≡ true → ((t ≡ true) × (a ≡ true)) ⊎ ((t ≡ false) × (b ≡ true))
-pick-cases true a b e = inl (refl, e)
-pick-cases false a b e = inr (refl, e)
+cond-cases : (t a b : Bool) → cond t a b ≡ true → ((t ≡ true) × (a ≡ true)) ⊎ ((t ≡ false) × (b ≡ true))
+cond-cases true a b e = inl (refl, e)
+cond-cases false a b e = inr (refl, e)
 
 -- the test says what the order says
 pub before : (a b : Move) → precedes a b ≡ true → Before a b
@@ -27,9 +27,9 @@ before a b h =
     (λ w. ⊎-elim
     (λ v. by-to (eqb-true _ _ (w .0)) (eqb-true _ _ (v .0)) (ltb-true _ _ (v .1)))
     (λ v. by-event (eqb-true _ _ (w .0)) (ltb-true _ _ (v .1)))
-    (pick-cases (eqb (a .event) (b .event)) _ _ (w .1)))
+    (cond-cases (eqb (a .event) (b .event)) _ _ (w .1)))
     (λ w. by-from (ltb-true _ _ (w .1)))
-    (pick-cases (eqb (a .from) (b .from)) _ _ h)
+    (cond-cases (eqb (a .from) (b .from)) _ _ h)
 
 -- each of the three comparisons decides where the earlier ones are equal
 pub precedes-from : (a b : Move) → (a .from ≡ b .from → ⊥) → ltb (a .from) (b .from) ≡ precedes a b

@@ -9,7 +9,8 @@ use lib.ListN.{take, drop}
 use lib.Seq.{take-add, drop-drop}
 use lib.Dec.{eqb}
 use borrow.Author.Tests.{eq-eqb, ne-eqb}
-use Rattle.tables.specs.Moves.{moveAt, disordered}
+use Rattle.tables.specs.Moves.{moveAt}
+use Rattle.tables.specs.Valid.{disordered}
 use Rattle.tables.specs.State.{keep, ofState}
 use Rattle.tables.specs.Seek.{Seeks}
 use Rattle.tables.proofs.Order.{rising}

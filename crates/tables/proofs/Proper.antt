@@ -1,6 +1,6 @@
 -- What the tests 2 and 4 to 7 leave of a table, said of its moves as a list: what a builder shows of the table that it writes.
 use Prim.Native.Nat.{ℕ}
-use mathlib.Core.Bool.{Bool, true, false}
+use mathlib.Core.Bool.{Bool, true, false, _&&_}
 use mathlib.Core.Path.{_≡_, refl, sym, subst}
 use mathlib.Core.Logic.{_↔_}
 use mathlib.Core.List.{List, List·Memᴰ, Memᴰ·cast}
@@ -8,11 +8,9 @@ use lib.ListN.{length}
 use lib.Dec.{eqb}
 use borrow.Author.Tests.{le-ltb, lt-leb, eqb-true}
 use Rattle.csp.specs.Table.{Move, Table, move, Fits}
-use Rattle.tables.specs.Tests.{and}
-use Rattle.tables.specs.Moves.{misnames, misnamed, circles, circling}
 use Rattle.tables.specs.Order.{Ascending}
 use Rattle.tables.specs.Bytes.{count, moveOf, row, tableOf}
-use Rattle.tables.specs.Valid.{refusal}
+use Rattle.tables.specs.Valid.{misnames, misnamed, circles, circling, refusal}
 use Rattle.tables.specs.declared.answer.Test.the-variants.{Clear}
 use Rattle.tables.proofs.Some.{some-false}
 use Rattle.tables.proofs.Rows.{Stands, same-move, row-length, in-row, of-row}
@@ -61,7 +59,7 @@ module _ (n E s : ℕ) (at : ℕ → Move) (m : ℕ) where
     no-circle = some-false _ m (λ j l. still (at j) (in-row at m j l));
   }
     where
-      pick : (a b : Bool) (v : Move) → eqb (v .event) 0 ≡ a → eqb (v .from) (v .to) ≡ b → List·Memᴰ v (row at m) → and a b ≡ false
+      pick : (a b : Bool) (v : Move) → eqb (v .event) 0 ≡ a → eqb (v .from) (v .to) ≡ b → List·Memᴰ v (row at m) → (a && b) ≡ false
       pick false b v x y i = refl
       pick true false v x y i = refl
       pick true true v x y i =
@@ -70,7 +68,7 @@ module _ (n E s : ℕ) (at : ℕ → Move) (m : ℕ) where
           let e : move (v .from) 0 (v .from) ≡ v = same-move refl (sym z) q in
           absurd (g .no-circle (v .from) (Memᴰ·cast e i))
 
-      still : (v : Move) → List·Memᴰ v (row at m) → and (eqb (v .event) 0) (eqb (v .from) (v .to)) ≡ false
+      still : (v : Move) → List·Memᴰ v (row at m) → (eqb (v .event) 0 && eqb (v .from) (v .to)) ≡ false
       still v i = pick _ _ v refl refl i
 
 -- A table that no test refuses is proper; above all it fits.

@@ -9,14 +9,13 @@ use lib.Dec.{ltb, eqb}
 use borrow.Author.Tests.{ltb-false, leb-false, eqb-true, not-false, lt-ltb, le-ltb, lt-leb, eq-eqb}
 use Rattle.tables.specs.Numbers.{num}
 use Rattle.tables.specs.Tests.{when}
-use Rattle.tables.specs.Moves.{misnamed, disordered, circling}
 use Rattle.csp.specs.Table.{Move}
 use Rattle.tables.specs.Bytes.{states, events, start, count, moveOf}
 use Rattle.tables.specs.Looking.{Headed}
 use Rattle.tables.proofs.Some.{or-false}
 use Rattle.tables.specs.declared.answer.Test.{Test}
 use Rattle.tables.specs.declared.answer.Test.the-variants.{Clear, Refuses}
-use Rattle.tables.specs.Valid.{short, outside, misframed, astray, laterTests, refusal}
+use Rattle.tables.specs.Valid.{fewBytes, outside, misframed, astray, misnamed, disordered, circling, laterTests, refusal}
 
 pub record Framed (t : List ℕ) (m : ℕ) : Type 0 where
   pub offset : num t 8 ≡ 12
@@ -53,7 +52,7 @@ within n E m h =
       moves = ltb-false _ _ (d .1);
     }
 
-pub when-clear : (b : Bool) (k : ℕ) (later : Test) → when b k later ≡ Clear → (b ≡ false) × (later ≡ Clear)
+pub when-clear : (b : Bool) (k : ℕ) (later : Test) → when b (Refuses k) later ≡ Clear → (b ≡ false) × (later ≡ Clear)
 when-clear true k later e = absurd (let q : _≡_ {A = ℕ} 0 1 = cc in omega arith)
 when-clear false k later e = (refl, e)
 
@@ -87,7 +86,7 @@ pub record Good (t : List ℕ) : Type 0 where
 pub good : (t : List ℕ) → refusal t ≡ Clear → Good t
 unfolding refusal
 good t h =
-    let a = when-clear (short t) 1 _ h in
+    let a = when-clear (fewBytes t) 1 _ h in
     let b = when-clear (outside (states t) (events t) (count t)) 2 _ (a .1) in
     let d = when-clear (misframed t (count t)) 3 _ (b .1) in
     record {

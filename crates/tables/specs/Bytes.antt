@@ -6,16 +6,19 @@ use Rattle.csp.specs.Table.{Move, Table}
 use Rattle.tables.specs.Numbers.{num, bytes}
 use Rattle.tables.specs.Moves.{moveAt}
 
--- "count of states n at 0, count of visible events E at 2, start state at 4, count of moves m at 6"
+-- "count of states n at 0"
 abbrev pub states : List ℕ → ℕ
 states t = num t 0
 
+-- "count of visible events E at 2"
 abbrev pub events : List ℕ → ℕ
 events t = num t 2
 
+-- "start state at 4"
 abbrev pub start : List ℕ → ℕ
 start t = num t 4
 
+-- "count of moves m at 6"
 abbrev pub count : List ℕ → ℕ
 count t = num t 6
 
@@ -41,7 +44,8 @@ unfoldable pub threes : List Move → List ℕ
 threes [] = []
 threes (v ∷ l) = v .from ∷ v .event ∷ v .to ∷ threes l
 
--- "Header of 12 bytes: count of states n at 0, count of visible events E at 2, start state at 4, count of moves m at 6, offset of the moves at 8, zero at 10."
+-- "Header of 12 bytes: count of states n at 0, count of visible events E at 2, start state at 4, count of moves m at 6, offset
+-- of the moves at 8, zero at 10."
 abbrev pub header : ℕ → ℕ → ℕ → ℕ → List ℕ
 header n E s m = bytes (n ∷ E ∷ s ∷ m ∷ 12 ∷ 0 ∷ [])
 

@@ -1,13 +1,13 @@
 -- For inner functions only: a header read, and the tests 5, 6 and 7 over a row of moves that are looked at one after the other.
 use Prim.Native.Nat.{ℕ, _+_, _≤_, _<_}
 use mathlib.Core.Path.{_≡_}
-use mathlib.Core.Bool.{false, not}
+use mathlib.Core.Bool.{false, not, _&&_, _||_}
 use mathlib.Core.List.{List}
 use lib.ListN.{length}
 use lib.Dec.{ltb}
 use Rattle.csp.specs.Table.{Move}
-use Rattle.tables.specs.Tests.{or, and}
-use Rattle.tables.specs.Moves.{meant, misnames, precedes, circles, misnamed, disordered, circling}
+use Rattle.tables.specs.Moves.{meant}
+use Rattle.tables.specs.Valid.{misnames, precedes, circles, misnamed, disordered, circling}
 use Rattle.tables.specs.Bytes.{states, events, start, count}
 use Rattle.tables.specs.declared.moves.Found.{Found}
 
@@ -28,9 +28,9 @@ pub record Nothing (f : Found) : Type 0 where
 
 -- r is f after a look at v, which is move i
 pub record LooksAt (n E i : ℕ) (v : Move) (f r : Found) : Type 0 where
-  pub misnamed : r .misnamed ≡ or (f .misnamed) (misnames n E v)
-  pub disordered : r .disordered ≡ or (f .disordered) (and (ltb 0 i) (not (precedes (meant (f .last)) v)))
-  pub circling : r .circling ≡ or (f .circling) (circles v)
+  pub misnamed : r .misnamed ≡ (f .misnamed || misnames n E v)
+  pub disordered : r .disordered ≡ (f .disordered || (ltb 0 i && not (precedes (meant (f .last)) v)))
+  pub circling : r .circling ≡ (f .circling || circles v)
   pub last : meant (r .last) ≡ v
 
 -- f is what the tests find of the first i moves of a row

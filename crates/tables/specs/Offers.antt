@@ -1,4 +1,5 @@
--- The offers and the stability of a state, said of the moves in its part. Laws tie them to the table's own.
+-- For inner functions only: the offers and the stability of a state, said of the moves in its part. Laws tie them to the
+-- table's own.
 use Prim.Native.Nat.{ℕ, _<_}
 use mathlib.Core.Path.{_≡_}
 use mathlib.Core.List.{List, List·Memᴰ}

@@ -13,10 +13,11 @@ use Rattle.tables.specs.declared.answer.Test.the-variants.{Clear, Refuse
 use Rattle.tables.specs.declared.answer.Read.{Read}
 use Rattle.tables.specs.Answers.{Says, refused, table, rule, call, readSays}
 
--- the moves of a table as numbers, three a move
+-- "gives them back": the moves of a table as numbers, three a move
 abbrev pub listOf : List ℕ → List ℕ
 listOf t = numbers (drop 12 t)
 
+-- an answer, with what is then in the list
 pub record Given : Type 0 where
   pub says : Says
   pub list : List ℕ

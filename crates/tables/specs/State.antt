@@ -11,6 +11,7 @@ use Rattle.tables.specs.Valid.{refusal}
 use Rattle.tables.specs.declared.answer.Test.{Test}
 use Rattle.tables.specs.declared.answer.Test.the-variants.{Clear, Refuses}
 
+-- the list where the test holds, else nothing
 abbrev pub keep : {A : Type 0} → Bool → List A → List A
 keep true l = l
 keep false l = []

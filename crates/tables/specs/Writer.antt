@@ -23,14 +23,15 @@ notInThrees l = not (eqb (length l % 3) 0)
 -- "refuses by 2 (m being a third of the list's length, rounded down), 3 (a list not in threes), 4 to 7"
 unfoldable pub listRefusal : ℕ → ℕ → ℕ → List ℕ → Test
 listRefusal n E s l =
-    when (outside n E (length l / 3)) 2
-    (when (notInThrees l) 3
+    when (outside n E (length l / 3)) (Refuses 2)
+    (when (notInThrees l) (Refuses 3)
     (laterTests n E s (listed l) (length l / 3)))
 
 -- the table that is to be written
 abbrev pub tableFrom : ℕ → ℕ → ℕ → List ℕ → Table
 tableFrom n E s l = record { n = n; E = E; start = s; moves = row (listed l) (length l / 3) }
 
+-- an answer, with what is then in the result buffer
 pub record Written : Type 0 where
   pub says : Says
   pub out : List ℕ

@@ -1,12 +1,11 @@
 // Moves, and what 5, 6 and 7 find among them, one after the other.
 ghost use mathlib.Core.Path.{_≡_};
-ghost use mathlib.Core.Bool.{not};
+ghost use mathlib.Core.Bool.{not, _&&_, _||_};
 ghost use Prim.Native.Nat.{_+_, _*_, _<_};
 ghost use lib.ListN.{length};
 ghost use lib.Dec.{ltb};
-ghost use Rattle.tables.specs.Tests.{or, and};
-ghost use Rattle.tables.specs.Moves.{meant, moveAt, misnames, precedes, circles};
-ghost use Rattle.tables.specs.Valid.{firstOf};
+ghost use Rattle.tables.specs.Moves.{meant, moveAt};
+ghost use Rattle.tables.specs.Valid.{misnames, precedes, circles, firstOf};
 ghost use Rattle.tables.specs.Looking.{Nothing, LooksAt};
 use crate::answer::Test;
 use crate::num::get;
@@ -91,7 +90,7 @@ pub fn nothing() -> Found
 
 // Whether a or b; both are computed, so that no branch stands around a call.
 fn either(a: bool, b: bool) -> bool
-    ensures { λ r. ⌜ r ≡ or a b ⌝ }
+    ensures { λ r. ⌜ r ≡ (a || b) ⌝ }
 {
     if a {
         return true;
@@ -101,7 +100,7 @@ fn either(a: bool, b: bool) -> bool
 
 // Whether move i does not come after the last: the first comes after none.
 fn strays(i: usize, last: Move, v: Move) -> bool
-    ensures { λ r. ⌜ r ≡ and (ltb 0 i) (not (precedes (meant last) (meant v))) ⌝ }
+    ensures { λ r. ⌜ r ≡ (ltb 0 i && not (precedes (meant last) (meant v))) ⌝ }
 {
     if i == 0 {
         return false;

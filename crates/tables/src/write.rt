@@ -1,10 +1,12 @@
 // The writer.
 ghost use mathlib.Core.Path.{_≡_};
-ghost use mathlib.Core.List.{_++_};
-ghost use Prim.Native.Nat.{_+_, _*_, _/_, _%_, _≤_};
+ghost use mathlib.Core.List.{_∷_, [], _++_};
+ghost use Prim.Native.Nat.{_+_, _*_, _/_, _%_, _≤_, _<_};
 ghost use lib.ListN.{length, drop};
+ghost use Rattle.csp.specs.Table.{move};
 ghost use Rattle.tables.specs.Numbers.{over};
 ghost use Rattle.tables.specs.Bytes.{header, encoded};
+ghost use Rattle.tables.specs.Putting.{moveBytes, into};
 ghost use Rattle.tables.specs.Writer.{tableFrom, WriteCall};
 use crate::answer::Built;
 use crate::answer::Refusal;
@@ -19,6 +21,15 @@ pub fn put_header(n: u16, e: u16, start: u16, m: u16, out: &mut [u8])
 {
     let numbers = [n, e, start, m, 12, 0];
     put_all(out, &numbers);
+}
+
+// Puts a move at byte `at` of the part that is lent for moves.
+pub fn put_move(ms: &mut [u8], at: usize, from: usize, event: usize, to: usize)
+    requires { ⌜ at + 6 ≤ length (now ms) ⌝ ∗ ⌜ (from < 65536) × ((event < 65536) × (to < 65536)) ⌝ }
+    ensures { λ r. ⌜ now (ms .exit) ≡ into at (moveBytes (move from event to ∷ [])) (now (ms .entry)) ⌝ }
+{
+    let three = [from as u16, event as u16, to as u16];
+    put_all(&mut ms[at..], &three);
 }
 
 // Puts the header, and the moves into the rest of the buffer.

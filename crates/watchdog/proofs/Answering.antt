@@ -1,13 +1,16 @@
 -- What is answered, from what the tests and the builder leave.
 use Prim.Native.Nat.{ℕ, _<_, _≤_}
 use mathlib.Core.Path.{_≡_, sym, _∙_, subst}
-use mathlib.Core.Bool.{Bool, false, true≢false}
+use mathlib.Core.Bool.{Bool, true, false, true≢false}
 use mathlib.Core.Logic.{_≢_}
 use mathlib.Core.List.{List}
 use native.Mathlib.Omega.{arith}
+use lib.Dec.{ltb}
+use borrow.Author.Tests.{ltb-true, lt-ltb}
 use Rattle.csp.specs.Table.{Table}
 use Rattle.csp.specs.Watchdog.{Watches}
-use Rattle.tables.specs.Bytes.{events, tableOf, encoded}
+use Rattle.tables.specs.Bytes.{states, events, tableOf, encoded}
+use Rattle.tables.specs.Rule.{manyStates, ManyNodes}
 use Rattle.tables.specs.Answers.{Says, refused, rule, whose, numberOf}
 use Rattle.tables.specs.declared.answer.Refusal.{Refusal}
 use Rattle.tables.proofs.Encoded.{denotes, encoded-clear, encoded-bytes}
@@ -17,15 +20,18 @@ use Rattle.normal.specs.Rule.{AsRule}
 use Rattle.normal.proofs.Ruling.{rule-fits, events-upto}
 use Rattle.normal.proofs.Sole.{not-over, formed-some, formed-none}
 use Rattle.watchdog.specs.Asking as asking
-use Rattle.watchdog.specs.Asking.{ManyStates, AllEvents, ManyNodes, Made, Unless, refuses, passes, stands, Writes, table}
-use Rattle.watchdog.specs.Rows.{watchTable, Puts, no-room, put}
+use Rattle.watchdog.specs.Asking.{AllEvents, Made, Unless, refuses, passes, Puts, Writes, table}
+use Rattle.watchdog.specs.Rows.{watchTable}
 use Rattle.watchdog.specs.Tests.{Tested, no-table, many-states, all-events, short-work, passed, Answers}
 use Rattle.watchdog.specs.declared.ask.Early.{Early}
 use Rattle.watchdog.specs.declared.ask.Early.the-variants as early
 use Rattle.watchdog.proofs.Watched.{table-watches, table-proper}
 
-few-states : (asked : List ℕ) → AsRule asked → ManyStates asked → ⊥
-few-states asked r h = omega (arith, r .small)
+few-states : (asked : List ℕ) → AsRule asked → manyStates asked ≡ true → ⊥
+few-states asked r h = omega (arith, r .small, ltb-true 64 (states asked) h)
+
+pub many : (n m : ℕ) → n ≡ m → 64 < n → ltb 64 m ≡ true
+many n m e h = lt-ltb 64 m (omega arith)
 
 module _ (asked : List ℕ) (lacks : Bool) (old : List ℕ) where
   said :
@@ -99,7 +105,4 @@ module _ (asked : List ℕ) (lacks : Bool) (old : List ℕ) (p : Passed asked la
         }
 
     pub answers-put : {says : Says} {new : List ℕ} → Puts (encoded (watchTable f)) old says new → Answers asked lacks old says new
-    answers-put (no-room h) = past asked lacks old p (passes few (record { table = encoded (watchTable f); made = made; put = refuses h }))
-    answers-put (put h) =
-        past asked lacks old p
-        (passes few (record { table = encoded (watchTable f); made = made; put = passes (λ l. omega arith) stands }))
+    answers-put p′ = past asked lacks old p (passes few (record { table = encoded (watchTable f); made = made; puts = p′ }))

@@ -1,6 +1,6 @@
 -- "Joined on events 1 to E with a flow of the rule's E, limits on joins set aside, event E + 1 can occur exactly when the
 -- flow has a trace fault": of the table that a call wrote.
-use Prim.Native.Nat.{ℕ, suc, _≤_, _<_}
+use Prim.Native.Nat.{ℕ, suc, _≤_}
 use mathlib.Core.Path.{_≡_, refl, sym, _∙_, ap, subst}
 use mathlib.Core.Logic.{_↔_}
 use mathlib.Core.List.{List}
@@ -20,7 +20,7 @@ use Rattle.tables.specs.Answers.{Says, refused, wrote}
 use Rattle.tables.specs.declared.answer.Test.the-variants.{Clear}
 use Rattle.tables.specs.declared.answer.Built.the-variants.{Wrote}
 use Rattle.tables.proofs.Proper.{fits}
-use Rattle.watchdog.specs.Asking.{Made, Unless, refuses, passes, Stands, stands, Writes, Builds, no-table, table, WatchdogCall}
+use Rattle.watchdog.specs.Asking.{Made, Unless, refuses, passes, Puts, no-room, put, Writes, Builds, no-table, table, WatchdogCall}
 
 -- what a call that wrote has left
 pub record Written (asked old : List ℕ) (n : ℕ) (new : List ℕ) : Type 0 where
@@ -32,26 +32,25 @@ pub record Written (asked old : List ℕ) (n : ℕ) (new : List ℕ) : Type 0 wh
   pub left : new ≡ over table old
 
 module _ (asked work16 work64 old : List ℕ) (n : ℕ) where
-  stands-left : {t : List ℕ} {s : Says} {x : List ℕ} → Stands t old s x → s ≡ wrote n → (length t ≡ n) × (x ≡ over t old)
-  stands-left stands e = (cc, refl)
+  puts-left : {t : List ℕ} {s : Says} {x : List ℕ} → Puts t old s x → s ≡ wrote n → (length t ≡ n) × (length t ≤ length old) × (x ≡ over t old)
+  puts-left (no-room h) e = absurd (let z : _≡_ {A = ℕ} 0 1 = cc in omega arith)
+  puts-left (put h) e = (cc, h, refl)
 
   -- a test that refuses does not write
   past :
       {P : Type 0} {w k : ℕ} {s : Says} {Rest : Says → List ℕ → Type 0} {x : List ℕ} → s ≡ wrote n →
-      Unless P (refused w k) Rest old s x → (P → ⊥) × Rest s x
+      Unless P (refused w k) Rest old s x → Rest s x
   past e (refuses p) = absurd (let z : _≡_ {A = ℕ} 0 1 = cc in omega arith)
-  past e (passes q r) = (q, r)
+  past e (passes q r) = r
 
   writes-left : {s : Says} {x : List ℕ} → refusal asked ≡ Clear → Writes (tableOf asked) old s x → s ≡ wrote n → Written asked old n x
   writes-left g w e =
-      let q = past e (w .put) in
-      let p = stands-left (q .1) e in
-      let h : length old < length (w .table) → ⊥ = q .0 in
-      record { table = w .table; good = g; made = w .made; size = p .0; room = omega arith; left = p .1 }
+      let p = puts-left (w .puts) e in
+      record { table = w .table; good = g; made = w .made; size = p .0; room = p .1; left = p .2 }
 
   builds-left : {s : Says} {x : List ℕ} → Builds asked work16 work64 old s x → s ≡ wrote n → Written asked old n x
   builds-left (no-table h) e = absurd (let z : _≡_ {A = ℕ} 0 1 = cc in omega arith)
-  builds-left (table h r) e = writes-left h (past e (past e (past e (past e r .1) .1) .1) .1) e
+  builds-left (table h r) e = writes-left h (past e (past e (past e (past e r)))) e
 
   pub call-left :
       {left16 left64 new : List ℕ} → WatchdogCall asked work16 work64 old (Wrote n) left16 left64 new → Written asked old n new

@@ -1,18 +1,17 @@
 -- Two outcomes that a call allows are equal.
-use Prim.Native.Nat.{ℕ, _<_}
+use Prim.Native.Nat.{ℕ}
 use mathlib.Core.Path.{_≡_, refl, sym, _∙_, ap, subst}
 use mathlib.Core.List.{List}
 use native.Mathlib.Omega.{arith}
-use lib.ListN.{length}
 use Rattle.csp.specs.Table.{Table}
 use Rattle.csp.specs.Watchdog.{Watches}
 use Rattle.csp.proofs.Unique.{form-unique}
 use Rattle.tables.specs.Bytes.{tableOf}
-use Rattle.tables.specs.Answers.{Says, refused, rule, call, builtSays}
+use Rattle.tables.specs.Answers.{Says, refused, rule, builtSays}
 use Rattle.tables.specs.declared.answer.Built.{Built}
 use Rattle.tables.proofs.Same.{Alike, tables-same}
 use Rattle.tables.proofs.Unique.{built-one}
-use Rattle.watchdog.specs.Asking.{Made, Unless, refuses, passes, Stands, stands, Writes, Builds, no-table, table, WatchdogCall}
+use Rattle.watchdog.specs.Asking.{Made, Unless, refuses, passes, Puts, no-room, put, Writes, Builds, no-table, table, WatchdogCall}
 
 -- what is said and what is left in the buffer
 pub record Same (s : Says) (x : List ℕ) (s′ : Says) (x′ : List ℕ) : Type 0 where
@@ -50,17 +49,17 @@ unless-one rest s s′ x x′ (refuses p) (passes n r) = absurd (n p)
 unless-one rest s s′ x x′ (passes n r) (refuses p) = absurd (n p)
 unless-one rest s s′ x x′ (passes n r) (passes m q) = rest s s′ x x′ r q
 
-stands-one : {t old : List ℕ} → One (Stands t old)
-stands-one s s′ x x′ stands stands = record { says = refl; left = refl }
+puts-one : {t old : List ℕ} → One (Puts t old)
+puts-one s s′ x x′ (no-room h) (no-room g) = record { says = refl; left = refl }
+puts-one s s′ x x′ (no-room h) (put g) = absurd (omega arith)
+puts-one s s′ x x′ (put h) (no-room g) = absurd (omega arith)
+puts-one s s′ x x′ (put h) (put g) = record { says = refl; left = refl }
 
 writes-one : {asked : Table} {old : List ℕ} → One (Writes asked old)
 writes-one {asked} {old} s s′ x x′ a b =
-    unless-one stands-one s s′ x x′
-    (a .put)
-    (subst
-    (λ (t : List ℕ). Unless (length old < length t) (refused call 18) (Stands t old) old s′ x′)
-    (made-one asked (b .table) (a .table) (b .made) (a .made))
-    (b .put))
+    puts-one s s′ x x′
+    (a .puts)
+    (subst (λ (t : List ℕ). Puts t old s′ x′) (made-one asked (b .table) (a .table) (b .made) (a .made)) (b .puts))
 
 builds-one : {asked work16 work64 old : List ℕ} → One (Builds asked work16 work64 old)
 builds-one s s′ x x′ (no-table {k = k} h) (no-table {k = j} g) =

@@ -1,36 +1,25 @@
--- What asking for the watchdog of a rule answers, and what the lent buffers hold then.
+-- What asking for the watchdog of a rule answers, and what the lent buffers hold then. asked is the rule, as bytes or as the
+-- table that they denote, and old is the result buffer as it was.
 use mathlib.Core.Path.{_≡_}
 use mathlib.Core.Bool.{true}
 use mathlib.Core.List.{List}
-use Prim.Native.Nat.{ℕ, _<_}
+use Prim.Native.Nat.{ℕ, _≤_, _<_}
 use lib.ListN.{length}
 use Rattle.csp.specs.Table.{Table}
 use Rattle.csp.specs.Normal.{NormalForm}
 use Rattle.csp.specs.Watchdog.{Watches}
 use Rattle.tables.specs.Numbers.{AllBytes, over}
-use Rattle.tables.specs.Bytes.{states, events, tableOf}
+use Rattle.tables.specs.Bytes.{events, tableOf}
 use Rattle.tables.specs.Valid.{refusal}
+use Rattle.tables.specs.Rule.{manyStates, ManyNodes}
 use Rattle.tables.specs.Answers.{Says, refused, wrote, rule, call, builtSays}
 use Rattle.tables.specs.declared.answer.Test.the-variants.{Clear, Refuses}
 use Rattle.tables.specs.declared.answer.Built.{Built}
 use Rattle.workspace.specs.Workspace.{short, cleared}
-use Rattle.normal.specs.Made.{MoreSets}
-
--- 10: "the rule has more than 64 states"
-abbrev pub ManyStates : List ℕ → Type 0
-ManyStates t = 64 < states t
 
 -- 19: "a watchdog is asked of a rule with E = 63"
 abbrev pub AllEvents : List ℕ → Type 0
-AllEvents t = events t ≡ 63
-
--- 11: "a workspace is short: below 32,768 16-bit numbers or 128 64-bit numbers"
-abbrev pub Short : List ℕ → List ℕ → Type 0
-Short work16 work64 = short work16 work64 ≡ true
-
--- 12: "the rule has more than 64 nodes"
-abbrev pub ManyNodes : List ℕ → Type 0
-ManyNodes t = MoreSets (tableOf t) 64
+AllEvents asked = events asked ≡ 63
 
 -- t is the bytes of the watchdog: the one good table whose states, events, start and moves are those of the watchdog for
 -- the rule's nodes
@@ -47,29 +36,32 @@ pub data Unless (P : Type 0) (no : Says) (Rest : Says → List ℕ → Type 0) (
   refuses : P → Unless P no Rest old no old
   passes : {says : Says} {new : List ℕ} → (P → ⊥) → Rest says new → Unless P no Rest old says new
 
--- the table stands in the buffer, and "bytes past a written table stay"
-pub data Stands (t old : List ℕ) : Says → List ℕ → Type 0 where
-  stands : Stands t old (wrote (length t)) (over t old)
+-- 18: "the result buffer is shorter than the table to be written"; else the table stands in it, and "bytes past a written
+-- table stay"
+pub data Puts (t old : List ℕ) : Says → List ℕ → Type 0 where
+  no-room : length old < length t → Puts t old (refused call 18) old
+  put : length t ≤ length old → Puts t old (wrote (length t)) (over t old)
 
--- 18: "the result buffer is shorter than the table to be written"
+-- the watchdog is made, and put where there is room
 pub record Writes (asked : Table) (old : List ℕ) (says : Says) (new : List ℕ) : Type 0 where
   pub table : List ℕ
   pub made : Made asked table
-  pub put : Unless (length old < length table) (refused call 18) (Stands table old) old says new
+  pub puts : Puts table old says new
 
 -- "Watchdog: the rule's 1 to 7, then 10, 19, 11, 12, 18."
 pub data Builds (asked work16 work64 old : List ℕ) : Says → List ℕ → Type 0 where
   no-table : {k : ℕ} → refusal asked ≡ Refuses k → Builds asked work16 work64 old (refused rule k) old
   table :
       {says : Says} {new : List ℕ} → refusal asked ≡ Clear →
-      Unless (ManyStates asked) (refused rule 10)
+      Unless (manyStates asked ≡ true) (refused rule 10)
       (Unless (AllEvents asked) (refused rule 19)
-      (Unless (Short work16 work64) (refused call 11)
+      (Unless (short work16 work64 ≡ true) (refused call 11)
       (Unless (ManyNodes asked) (refused rule 12)
       (Writes (tableOf asked) old) old) old) old) old says new →
       Builds asked work16 work64 old says new
 
--- What a call promises: r is its answer, left16 and left64 the workspaces after it, new the result buffer.
+-- What a call promises: the rule, both workspaces and the result buffer are as given, r is its answer, left16 and left64 are
+-- the workspaces after it, and new is the result buffer.
 -- "Check and watchdog clear both workspaces to zero over their whole length, refused or not, short or not."
 pub record WatchdogCall (asked work16 work64 old : List ℕ) (r : Built) (left16 left64 new : List ℕ) : Type 0 where
   pub builds : Builds asked work16 work64 old (builtSays r) new

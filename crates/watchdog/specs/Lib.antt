@@ -1,4 +1,5 @@
--- In the order a newcomer would read them.
+-- What a call promises.
 pub mod Asking
+-- No promise rests on what follows: it is for inner functions.
 pub mod Rows
 pub mod Tests

@@ -1,13 +1,11 @@
 -- For inner functions only: the moves of a watchdog in their order, read off a form.
 use mathlib.Core.Bool.{Bool, true, false}
 use mathlib.Core.List.{List, [], _∷_, _++_}
-use Prim.Native.Nat.{ℕ, zero, suc, _+_, _*_, _≤_, _<_}
-use lib.ListN.{length, getD, take, drop}
+use Prim.Native.Nat.{ℕ, zero, suc, _+_, _*_}
+use lib.ListN.{getD}
 use lib.Dec.{eqb}
 use Rattle.csp.specs.Table.{Move, Table, move}
-use Rattle.tables.specs.Numbers.{bytes, over}
-use Rattle.tables.specs.Bytes.{row, threes}
-use Rattle.tables.specs.Answers.{Says, refused, wrote, call}
+use Rattle.tables.specs.Bytes.{row}
 use Rattle.normal.specs.declared.form.Form.{Form}
 use Rattle.normal.specs.Form.{none}
 
@@ -16,6 +14,7 @@ abbrev pub orElse : Bool → ℕ → ℕ → ℕ
 orElse true a b = b
 orElse false a b = a
 
+-- the node v, or state k if it is none
 abbrev pub target : ℕ → ℕ → ℕ
 target v k = orElse (eqb v none) v k
 
@@ -36,16 +35,3 @@ watchMoves next k E = nodeMoves next k E k ++ (move k (E + 1) k ∷ [])
 abbrev pub watchTable : Form → Table
 watchTable f =
     record { n = f .count + 1; E = f .events + 1; start = 0; moves = watchMoves (f .next) (f .count) (f .events) }
-
--- moves as bytes
-abbrev pub moveBytes : List Move → List ℕ
-moveBytes l = bytes (threes l)
-
--- a row put into a buffer from a place on
-abbrev pub into : ℕ → List ℕ → List ℕ → List ℕ
-into at new old = take at old ++ over new (drop at old)
-
--- 18, or the table t stands in the buffer
-pub data Puts (t old : List ℕ) : Says → List ℕ → Type 0 where
-  no-room : length old < length t → Puts t old (refused call 18) old
-  put : length t ≤ length old → Puts t old (wrote (length t)) (over t old)

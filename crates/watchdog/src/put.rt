@@ -1,19 +1,19 @@
 // Writing a watchdog: its header, and its moves into the part of the buffer from byte 12 on.
 ghost use mathlib.Core.Path.{_≡_};
-ghost use mathlib.Core.List.{_∷_, []};
 ghost use Prim.Native.Nat.{_+_, _*_, _≤_, _<_};
 ghost use lib.ListN.{length};
-ghost use Rattle.csp.specs.Table.{move};
 ghost use Rattle.tables.specs.Numbers.{over};
 ghost use Rattle.tables.specs.Bytes.{row, encoded};
+ghost use Rattle.tables.specs.Putting.{moveBytes, into};
 ghost use Rattle.tables.specs.Answers.{builtSays};
-ghost use Rattle.watchdog.specs.Rows.{target, nodeMove, watchMoves, watchTable, moveBytes, into, Puts};
+ghost use Rattle.watchdog.specs.Asking.{Puts};
+ghost use Rattle.watchdog.specs.Rows.{target, nodeMove, watchMoves, watchTable};
 use normal::form::Form;
 use tables::answer::Built;
 use tables::answer::Refusal;
-use tables::num::put_all;
 use tables::num::wide;
 use tables::write::put_header;
+use tables::write::put_move;
 
 // Where a node goes: its next node, or state k if there is none.
 fn target_of(next: u8, k: usize) -> usize
@@ -24,15 +24,6 @@ fn target_of(next: u8, k: usize) -> usize
         return k;
     }
     wide(next)
-}
-
-// Puts a move at byte `at`.
-fn put_move(ms: &mut [u8], at: usize, from: usize, event: usize, to: usize)
-    requires { ⌜ at + 6 ≤ length (now ms) ⌝ ∗ ⌜ (from < 65536) × ((event < 65536) × (to < 65536)) ⌝ }
-    ensures { λ r. ⌜ now (ms .exit) ≡ into at (moveBytes (move from event to ∷ [])) (now (ms .entry)) ⌝ }
-{
-    let three = [from as u16, event as u16, to as u16];
-    put_all(&mut ms[at..], &three);
 }
 
 // Puts the moves of node i by events 1 to last, from byte `at` on.

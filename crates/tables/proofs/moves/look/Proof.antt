@@ -1,6 +1,6 @@
 use borrow.Author.Needs.{needs}
 use mathlib.Core.Path.{refl, ap, _∙_}
-use Rattle.tables.specs.Tests.{or}
+use mathlib.Core.Bool.{_||_}
 use Rattle.tables.proofs.moves.look.Statement.{statement}
 use Rattle.tables.proofs.moves.look.Tie as tie
 
@@ -26,9 +26,9 @@ returns : tie.Need-returns
 returns c =
     let f = c .before .before .before .before .before .before .before .args .f in
     record {
-      misnamed = c .before .before .before .before .either .ensures ∙ ap (or (f .misnamed)) (c .before .before .before .before .before .misnames-one .ensures);
-      disordered = c .before .before .either2 .ensures ∙ ap (or (f .disordered)) (c .before .before .before .strays .ensures);
-      circling = c .either3 .ensures ∙ ap (or (f .circling)) (c .before .circles-one .ensures);
+      misnamed = c .before .before .before .before .either .ensures ∙ ap (_||_ (f .misnamed)) (c .before .before .before .before .before .misnames-one .ensures);
+      disordered = c .before .before .either2 .ensures ∙ ap (_||_ (f .disordered)) (c .before .before .before .strays .ensures);
+      circling = c .either3 .ensures ∙ ap (_||_ (f .circling)) (c .before .circles-one .ensures);
       last = refl;
     }
 

@@ -5,6 +5,7 @@ use Rattle.watchdog.specs.Tests.{no-table, many-states, all-events, shor
 use Rattle.tables.specs.declared.answer.Test.the-variants.{Refuses}
 use Rattle.tables.specs.Valid.{refusal}
 use Rattle.tables.proofs.Tested.{good}
+use Rattle.watchdog.proofs.Answering.{many}
 use Rattle.watchdog.proofs.ask.tested.Statement.{statement}
 use Rattle.watchdog.proofs.ask.tested.Tie as tie
 
@@ -25,7 +26,7 @@ get-requires : tie.Need-get-requires
 get-requires c κs = omega (arith, good _ (sym (c .before .before .test .ensures) ∙ c .enum-told .given .1) .long)
 
 returns-2 : tie.Need-returns-2
-returns-2 c = many-states (sym (c .before .before .before .before .test .ensures) ∙ c .before .before .enum-told .given .1) (omega (arith, c .before .get .ensures .0))
+returns-2 c = many-states (sym (c .before .before .before .before .test .ensures) ∙ c .before .before .enum-told .given .1) (many _ _ (c .before .get .ensures .0) (c .if1 .taken))
 
 get-requires-2 : tie.Need-get-requires-2
 get-requires-2 c κs = omega (arith, good _ (sym (c .before .before .before .before .test .ensures) ∙ c .before .before .enum-told .given .1) .long)

@@ -5,8 +5,10 @@ use Prim.Native.Nat.{ℕ, _+_, _-_, _*_, _≤_}
 use lib.ListN.{length}
 use mathlib.Core.List.{[], _∷_}
 use Rattle.csp.specs.Table.{move}
-use Rattle.watchdog.specs.Rows.{nodeMoves, moveBytes, into}
-use Rattle.watchdog.proofs.Splicing.{nodes-none, nodes-next, nodes-length, rows-fit, rows-few, moves-more}
+use Rattle.tables.specs.Putting.{moveBytes, into}
+use Rattle.watchdog.specs.Rows.{nodeMoves}
+use Rattle.tables.proofs.Putting.{moves-more}
+use Rattle.watchdog.proofs.Splicing.{nodes-none, nodes-next, nodes-length, rows-fit, rows-few}
 use Rattle.watchdog.proofs.put.put_moves.Statement.{statement}
 use Rattle.watchdog.proofs.put.put_moves.Tie as tie
 

@@ -6,8 +6,9 @@ use lib.ListN.{length}
 use mathlib.Core.List.{[], _∷_}
 use Rattle.csp.specs.Table.{move}
 use Rattle.tables.specs.Bytes.{row}
-use Rattle.watchdog.specs.Rows.{nodeMove, moveBytes, into}
-use Rattle.watchdog.proofs.Splicing.{row-none, row-next}
+use Rattle.tables.specs.Putting.{moveBytes, into}
+use Rattle.watchdog.specs.Rows.{nodeMove}
+use Rattle.tables.proofs.Putting.{row-none, row-next}
 use Rattle.watchdog.proofs.put.put_node.Statement.{statement}
 use Rattle.watchdog.proofs.put.put_node.Tie as tie
 

@@ -7,8 +7,11 @@ use lib.ListN.{take}
 use Rattle.tables.specs.Numbers.{over}
 use Rattle.tables.specs.Bytes.{encoded}
 use Rattle.tables.proofs.Parts.{tail-lent, tail-back}
-use Rattle.watchdog.specs.Rows.{watchMoves, watchTable, moveBytes, no-room}
-use Rattle.watchdog.proofs.Splicing.{rows-few, watch-count, watch-length, table-put, puts-put}
+use Rattle.watchdog.specs.Asking.{no-room}
+use Rattle.tables.specs.Putting.{moveBytes}
+use Rattle.watchdog.specs.Rows.{watchMoves, watchTable}
+use Rattle.tables.proofs.Putting.{table-put}
+use Rattle.watchdog.proofs.Splicing.{rows-few, watch-count, watch-length, puts-put}
 use Rattle.watchdog.proofs.put.put_watchdog.Statement.{statement}
 use Rattle.watchdog.proofs.put.put_watchdog.Tie as tie
 
