@@ -1,0 +1,5 @@
+pub mod Numbers
+pub mod Lengths
+pub mod Few
+pub mod Putting
+pub mod Sole
