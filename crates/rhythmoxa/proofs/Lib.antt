@@ -1,0 +1,4 @@
+-- Laws.
+pub mod Standing
+pub mod Kept
+pub mod Sole
