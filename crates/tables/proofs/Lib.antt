@@ -7,6 +7,7 @@ pub mod Rows
 pub mod Tested
 pub mod Looking
 pub mod Order
+pub mod Seeking
 pub mod PartOf
 pub mod Named
 pub mod Proper
