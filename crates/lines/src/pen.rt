@@ -4,7 +4,7 @@ ghost use Rattle.lines.specs.Text.{decimal};
 ghost use Rattle.lines.specs.Pen.{is_over, Draws};
 
 // How many bytes were counted, or put; or that they are more than the buffer holds.
-#[derive(Drop)]
+#[derive(Clone, Copy)]
 pub enum Pen {
     Counts(usize),
     Puts(usize),

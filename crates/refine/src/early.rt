@@ -8,7 +8,7 @@ use tables::num::get;
 use tables::valid;
 
 // What the tests find: nothing, or a refusal.
-#[derive(Drop)]
+#[derive(Clone, Copy)]
 pub enum Early {
     Clear,
     Refused(Refusal),

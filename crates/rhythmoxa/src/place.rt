@@ -5,7 +5,7 @@ use tables::num::{get, wide16};
 use tables::state::{moves_of, seek};
 
 // A part of a table: where it begins, and how many bytes it has.
-#[derive(Drop)]
+#[derive(Clone, Copy)]
 pub struct Part {
     pub offset: usize,
     pub size: usize,

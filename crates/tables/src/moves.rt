@@ -7,7 +7,7 @@ ghost use Rattle.tables.specs.Looking.{Nothing, LooksAt};
 use crate::answer::Test;
 use crate::num::get;
 
-#[derive(Drop)]
+#[derive(Clone, Copy)]
 pub struct Move {
     pub from: usize,
     pub event: usize,
@@ -63,7 +63,7 @@ pub fn move_at(ms: &[u8], j: usize) -> Move
 }
 
 // What the tests 5, 6 and 7 find among the moves looked at so far, and the last of these moves.
-#[derive(Drop)]
+#[derive(Clone, Copy)]
 pub struct Found {
     pub misnamed: bool,
     pub disordered: bool,

@@ -85,7 +85,7 @@ pub fn read(about: &[u8], table: &[u8], n: usize) {
 }
 
 // A table's header: how many states and events it has, and where it starts.
-#[derive(Drop)]
+#[derive(Clone, Copy)]
 pub struct Head {
     pub states: u16,
     pub events: u16,

@@ -11,7 +11,7 @@ pub const JUNK_16: u16 = 42919;
 pub const JUNK_64: u64 = 12080808863958804391;
 
 // How long the buffers are that a call is lent.
-#[derive(Drop)]
+#[derive(Clone, Copy)]
 pub struct Lent {
     pub work_16: usize,
     pub work_64: usize,

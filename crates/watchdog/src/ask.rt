@@ -10,7 +10,7 @@ use tables::num::get;
 use tables::valid;
 
 // What the tests find that come before the nodes are looked for.
-#[derive(Drop)]
+#[derive(Clone, Copy)]
 pub enum Early {
     Clear,
     Refused(Refusal),
