@@ -104,17 +104,19 @@ module _ (flow rule : Table) (fi : Fits flow) (fs : Fits rule) (sameE : flow.E �
   keep {e} (right h m) i = keep-flow e h m i
   keep {e} (both h m n) i = keep-both (of_set rule.E e h) m n i
 
-  -- A cry comes from state k, where there is a fault.
-  cried : {w w' q : ℕ} → WatchMove rule nodes w (suc rule.E) w' → Beside flow rule nodes w q → (s : List ℕ) × TraceFault (lts flow) (lts rule) s
-  cried (goes at n at') i = absurd (omega (arith, (seen_low n).1))
-  cried (falls at v k n) i = absurd (omega arith)
-  cried cries (good s g) = absurd (omega (arith, at_below g.at))
-  cried cries (bad h s f) = (s, f)
+  -- A cry comes from state k, where there is a fault. The event is told by an equation, or the match would need axiom K.
+  cried :
+      {w w' e q : ℕ} → e ≡ suc rule.E → WatchMove rule nodes w e w' → Beside flow rule nodes w q →
+      (s : List ℕ) × TraceFault (lts flow) (lts rule) s
+  cried p (goes at n at') i = absurd (omega (arith, (seen_low n).1))
+  cried p (falls at v k n) i = absurd (omega arith)
+  cried p cries (good s g) = absurd (omega (arith, at_below g.at))
+  cried p cries (bad h s f) = (s, f)
 
   cry-of :
       {w w' q q' : ℕ} → JoinMove (watchdog rule nodes) (lts flow) (up_to rule.E) w q (suc rule.E) w' q' →
       Beside flow rule nodes w q → (s : List ℕ) × TraceFault (lts flow) (lts rule) s
-  cry-of (left h m) i = cried m i
+  cry-of (left h m) i = cried refl m i
   cry-of (right h m) i = absurd (omega (arith, small m))
   cry-of (both h m n) i = absurd (omega (arith, of_set rule.E (suc rule.E) h))
 
