@@ -1,9 +1,0 @@
-use mathlib.Core.Path.{refl}
-use Rattle.tables.specs.Numbers.{bytes}
-use Rattle.tables.specs.Bytes.{threes, encoded}
-use Rattle.cases.proofs.flow_7.Statement.{statement}
-use Rattle.cases.proofs.flow_7.Tie as tie
-
-pub flow_7_spec : {M : Type 1} → statement M
-unfolding encoded bytes threes
-flow_7_spec = tie.close (tie.spec (λ c. refl))
