@@ -21,7 +21,7 @@ use Rattle.tables.specs.Valid.{outside, misframed, later_tests, refusal, misname
 use Rattle.tables.specs.declared.answer.Test.{Test}
 use Rattle.tables.specs.declared.answer.Test.TheVariants.{Clear, Refuses}
 use Rattle.tables.proofs.Proper.{fits}
-use Rattle.cases.specs.Cases.{Case, check, join, watchdog, Good, Result, RightCase, right-check, right-join, right-watchdog, cases}
+use Rattle.cases.specs.Cases.{Case, check, join, watchdog, Good, Result, RightCase, right_check, right_join, right_watchdog, cases}
 
 abbrev visit : ℕ → ℕ → List ℕ → Visit
 visit i q u = record { node = i; state = q; trace = u }
@@ -63,18 +63,18 @@ right? (check k rule flow mode verdict) w =
     (both (good? rule) (good? flow))
     (λ g.
     map
-    (right-check g.0 g.1)
+    (right_check g.0 g.1)
     (judge mode (table_of flow) (table_of rule) (fits flow g.1) (fits rule g.0) verdict w))
 right? (join k a b set size table) w =
     map
-    (λ g. right-join g.0.0 g.0.1 g.1.0 g.1.1)
+    (λ g. right_join g.0.0 g.0.1 g.1.0 g.1.1)
     (both (both (good? a) (good? b)) (both (result? size table) (joined (table_of a) (table_of b) (has set) (table_of table))))
 right? (watchdog k rule size table) w =
     then
     (both (good? rule) (result? size table))
     (λ g.
     map
-    (λ l. right-watchdog g.0 g.1 l.0 l.1.0 l.1.1)
+    (λ l. right_watchdog g.0 g.1 l.0 l.1.0 l.1.1)
     (watched (table_of rule) (fits rule g.0) (table_of table)))
 
 abbrev all_right : (cs : List Case) → List (List Visit) → Option ((i : ℕ) (c : Case) → At cs i c → RightCase c)

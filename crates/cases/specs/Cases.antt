@@ -27,13 +27,13 @@ pub record Result (size : ℕ) (t : List ℕ) : Type 0 where
 
 -- What a case states.
 pub data RightCase : Case → Type 0 where
-  right-check :
+  right_check :
       {k mode : ℕ} {rule flow : List ℕ} {verdict : Verdict} → Good rule → Good flow →
       Right mode (table_of flow) (table_of rule) verdict → RightCase (check k rule flow mode verdict)
-  right-join :
+  right_join :
       {k set size : ℕ} {a b table : List ℕ} → Good a → Good b → Result size table →
       Joined (table_of a) (table_of b) (has set) (table_of table) → RightCase (join k a b set size table)
-  right-watchdog :
+  right_watchdog :
       {k size : ℕ} {rule table : List ℕ} → Good rule → Result size table →
       (nodes : List ℕ) → NormalForm (table_of rule) nodes → Watches (table_of rule) nodes (table_of table) →
       RightCase (watchdog k rule size table)

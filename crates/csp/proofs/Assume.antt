@@ -6,10 +6,10 @@ use Rattle.csp.specs.Lts.{Lts}
 use Rattle.csp.specs.Pass.{Passes}
 use Rattle.csp.specs.Join.{join}
 use Rattle.csp.proofs.Passing.{Clear, passes_trans}
-use Rattle.csp.proofs.Joining.{passes-join}
+use Rattle.csp.proofs.Joining.{passes_join}
 
 pub assume_guarantee :
     (m : ℕ) (M₁ M₂ A P : Lts) (X : ℕ → Bool) → Clear M₁ → Passes m M₁ A → Passes m (join A M₂ X) P →
     Passes m (join M₁ M₂ X) P
 assume_guarantee m M₁ M₂ A P X clear a g =
-    passes_trans m (join M₁ M₂ X) (join A M₂ X) P (passes-join m M₁ A M₂ X clear a) g
+    passes_trans m (join M₁ M₂ X) (join A M₂ X) P (passes_join m M₁ A M₂ X clear a) g

@@ -24,37 +24,37 @@ module _ (rule : Table) (f : Fits rule) (l : List ℕ) (N : NormalForm rule l) w
     pub by : {i : ℕ} → At l i a → WatchMove rule l i e j
     pub only : {i j' : ℕ} → At l i a → WatchMove rule l i e j' → j' ≡ j
 
-  succ-at :
+  succ_at :
       {a a' b e i : ℕ} → At l i a → At l i a' → NextNode (lts rule) Has a' e b → succ_set rule f a e ≡ some b
-  succ-at {a} {a'} {b} {e} p q n =
+  succ_at {a} {a'} {b} {e} p q n =
       succ_to rule f a b e (subst (λ (x : ℕ). NextNode (lts rule) Has x e b) (at_only q p) n)
 
-  only-goes :
+  only_goes :
       {a b e i j j' : ℕ} → succ_set rule f a e ≡ some b → At l j b → At l i a → WatchMove rule l i e j' → j' ≡ j
-  only-goes {b} {j} {j'} h t p (goes {b = b'} q n u) =
-      let k = succ-at p q n in
+  only_goes {b} {j} {j'} h t p (goes {b = b'} q n u) =
+      let k = succ_at p q n in
       let same : b' ≡ b = cc in
       N.once j' j b (subst (λ (x : ℕ). At l j' x) same u) t
-  only-goes {a} {b} {e} h t p (falls q x y n) =
+  only_goes {a} {b} {e} h t p (falls q x y n) =
       let k = succ_from rule f a b e h in
       absurd (n k.one (subst (λ (x : ℕ). Step (lts rule) (Has x) e k.one) (at_only p q) (k.holds.only k.one k.has_one)))
-  only-goes h t p cries = absurd (omega (arith, at_below p))
+  only_goes h t p cries = absurd (omega (arith, at_below p))
 
-  only-falls :
+  only_falls :
       {a e i j' : ℕ} → succ_set rule f a e ≡ none → At l i a → WatchMove rule l i e j' → j' ≡ length l
-  only-falls h p (goes q n u) =
-      let k = succ-at p q n in
+  only_falls h p (goes q n u) =
+      let k = succ_at p q n in
       absurd (let z : ◌≡◌ {A = ℕ} 0 1 = cc in omega arith)
-  only-falls h p (falls q x y n) = refl
-  only-falls h p cries = refl
+  only_falls h p (falls q x y n) = refl
+  only_falls h p cries = refl
 
   pub next_goes : {a b e j : ℕ} → succ_set rule f a e ≡ some b → At l j b → Next a e j
-  next_goes {a} {b} {e} h t = record { by = λ p. goes p (succ_from rule f a b e h) t; only = λ p m. only-goes h t p m }
+  next_goes {a} {b} {e} h t = record { by = λ p. goes p (succ_from rule f a b e h) t; only = λ p m. only_goes h t p m }
 
   pub next_falls : {a e : ℕ} → succ_set rule f a e ≡ none → (0 < e) × (e < suc rule.E) → Next a e (length l)
   next_falls {a} {e} h v = record {
     by = λ p. falls p v.0 (omega (arith, v.1)) (succ_none rule f a e h);
-    only = λ p m. only-falls h p m;
+    only = λ p m. only_falls h p m;
   }
 
   abbrev next : (a e : ℕ) → Option ((j : ℕ) × Next a e j)
@@ -64,9 +64,9 @@ module _ (rule : Table) (f : Fits rule) (l : List ℕ) (N : NormalForm rule l) w
       go (some b) h = map (λ p. (p.0, next_goes h p.1)) (of_dec (place? ℕ_discrete l b))
       go none h = map (λ v. (length l, next_falls h v)) (of_dec (dec_and (dec_lt 0 e) (dec_lt e (suc rule.E))))
 
-  pub cries-at :
+  pub cries_at :
       {i e j : ℕ} → (i ≡ length l) × ((e ≡ suc rule.E) × (j ≡ length l)) → WatchMove rule l i e j
-  cries-at h = rw (h.0, h.1.0, h.1.1) cries
+  cries_at h = rw (h.0, h.1.0, h.1.1) cries
 
   abbrev watch_move : (i e j : ℕ) → Option (WatchMove rule l i e j)
   watch_move i e j = go (dec_lt i (length l))
@@ -81,7 +81,7 @@ module _ (rule : Table) (f : Fits rule) (l : List ℕ) (N : NormalForm rule l) w
           (of_dec (ℕ_discrete n.0 j)))
       go (no h) =
           map
-          cries-at
+          cries_at
           (of_dec (dec_and (ℕ_discrete i (length l)) (dec_and (ℕ_discrete e (suc rule.E)) (ℕ_discrete j (length l)))))
 
   module _ (t : Table) where

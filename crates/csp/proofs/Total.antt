@@ -12,18 +12,18 @@ use Rattle.csp.specs.Table.{Table, lts, Fits}
 use Rattle.sets.specs.Least.{NoHigher}
 use Rattle.csp.specs.Numbered.{lower}
 use Rattle.csp.specs.Normal.{NormalForm}
-use Rattle.csp.specs.Verdict.{Verdict, passes, trace_fault, refusal_fault, trace_of, Met, MetPairs, LeastOffers, Right, right-pass, right-trace, right-refusal}
+use Rattle.csp.specs.Verdict.{Verdict, passes, trace_fault, refusal_fault, trace_of, Met, MetPairs, LeastOffers, Right, right_pass, right_trace, right_refusal}
 use Rattle.csp.proofs.Ordering.{upto_trans}
-use Rattle.csp.proofs.Tables.{pass-iff, stays_below}
+use Rattle.csp.proofs.Tables.{pass_iff, stays_below}
 use Rattle.sets.proofs.Laws.{holds_only}
 use Rattle.csp.proofs.Places.{at_below}
 use Rattle.csp.proofs.Collect.{collect, Lowest, lowest}
 use Rattle.csp.proofs.Forms.{form_exists}
 use Rattle.csp.proofs.Testing.{Word}
 use Rattle.csp.proofs.Judging.{met?, fault?, fault_flow, run_word, refusal?, refusal-below, offer_set, offer_set_is}
-use Rattle.csp.proofs.Product.{met-short}
-use Rattle.csp.proofs.PairFaults.{fault_short, first-fault-short}
-use Rattle.csp.proofs.Words.{Least, least-word}
+use Rattle.csp.proofs.Product.{met_short}
+use Rattle.csp.proofs.PairFaults.{fault_short, first_fault_short}
+use Rattle.csp.proofs.Words.{Least, least_word}
 
 pub record FirstFault (m : ℕ) (flow rule : Table) : Type 0 where
   pub trace : List ℕ
@@ -34,11 +34,11 @@ module _ (m : ℕ) (flow rule : Table) (fi : Fits flow) (fs : Fits rule) (nodes 
   word : {u : List ℕ} → Fault m (lts flow) (lts rule) u → Word flow.E u
   word f = run_word flow fi (fault_flow m (lts flow) (lts rule) f).run
 
-  by-least :
+  by_least :
       Least flow.E (suc (length nodes * flow.n)) (Fault m (lts flow) (lts rule)) ⊎
       ((u : List ℕ) → Word flow.E u → length u < suc (length nodes * flow.n) → Fault m (lts flow) (lts rule) u → ⊥) →
       Passes m (lts flow) (lts rule) ⊎ FirstFault m flow rule
-  by-least (inl l) =
+  by_least (inl l) =
       inr (record {
         trace = l.word;
         fault = l.has;
@@ -47,8 +47,8 @@ module _ (m : ℕ) (flow rule : Table) (fi : Fits flow) (fs : Fits rule) (nodes 
             let h : length g.trace < suc (length nodes * flow.n) = omega (arith, g.small) in
             upto_trans (l.least g.trace (word g.fault) h g.fault) g.upto;
       })
-  by-least (inr n) =
-      inl ((pass-iff m flow rule fs).1 (λ u f.
+  by_least (inr n) =
+      inl ((pass_iff m flow rule fs).1 (λ u f.
       let g = fault_short flow rule fi fs nodes N m f in
       let h : length g.trace < suc (length nodes * flow.n) = omega (arith, g.small) in
       n g.trace (word g.fault) h g.fault))
@@ -57,21 +57,21 @@ module _ (m : ℕ) (flow rule : Table) (fi : Fits flow) (fs : Fits rule) (nodes 
 pub pass_or_fault : (m : ℕ) (flow rule : Table) → Fits flow → Fits rule → Passes m (lts flow) (lts rule) ⊎ FirstFault m flow rule
 pass_or_fault m flow rule fi fs =
     let F = form_exists rule fs in
-    by-least m flow rule fi fs F.0 F.1 (least-word flow.E (suc (length F.0 * flow.n)) (Fault m (lts flow) (lts rule)) (fault? m flow rule fi fs))
+    by_least m flow rule fi fs F.0 F.1 (least_word flow.E (suc (length F.0 * flow.n)) (Fault m (lts flow) (lts rule)) (fault? m flow rule fi fs))
 
 -- "No fault's trace is longer than nodes × flow states": of the reported one.
-pub right-short :
+pub right_short :
     (m : ℕ) (flow rule : Table) → Fits flow → Fits rule → (nodes : List ℕ) → NormalForm rule nodes → (v : Verdict) →
     Right m flow rule v → length (trace_of v) ≤ length nodes * flow.n
-right-short m flow rule fi fs nodes N _ (right-pass l p q M c) = omega arith
-right-short m flow rule fi fs nodes N _ (right-trace {s = s} f b) = first-fault-short flow rule fi fs nodes N m s (of_trace f) b
-right-short m flow rule fi fs nodes N _ (right-refusal {s = s} h c b) =
-    first-fault-short flow rule fi fs nodes N m s (of_refusal c.state h c.shows) b
+right_short m flow rule fi fs nodes N _ (right_pass l p q M c) = omega arith
+right_short m flow rule fi fs nodes N _ (right_trace {s = s} f b) = first_fault_short flow rule fi fs nodes N m s (of_trace f) b
+right_short m flow rule fi fs nodes N _ (right_refusal {s = s} h c b) =
+    first_fault_short flow rule fi fs nodes N m s (of_refusal c.state h c.shows) b
 
 -- Whether a pair is met, and by which trace.
 module _ (flow rule : Table) (fi : Fits flow) (fs : Fits rule) (nodes : List ℕ) (N : NormalForm rule nodes) where
   some_met? : (i q : ℕ) → Dec ((u : List ℕ) × Met flow rule nodes u i q)
-  some_met? i q = go (least-word flow.E (length nodes * flow.n) (λ u. Met flow rule nodes u i q) (met? flow rule fi fs nodes i q))
+  some_met? i q = go (least_word flow.E (length nodes * flow.n) (λ u. Met flow rule nodes u i q) (met? flow rule fi fs nodes i q))
     where
       go :
           Least flow.E (length nodes * flow.n) (λ u. Met flow rule nodes u i q) ⊎
@@ -80,7 +80,7 @@ module _ (flow rule : Table) (fi : Fits flow) (fs : Fits rule) (nodes : List ℕ
       go (inl l) = yes (l.word, l.has)
       go (inr n) =
           no (λ p.
-          let g = met-short flow rule fi fs nodes N p.1 in
+          let g = met_short flow rule fi fs nodes N p.1 in
           n g.0 (run_word flow fi g.1.run) g.2 g.1)
 
   pub pairs_exist : (l : List (ℕ × ℕ)) × MetPairs flow rule nodes l
@@ -119,8 +119,8 @@ module _ (m : ℕ) (flow rule : Table) (fi : Fits flow) (fs : Fits rule) where
       )
 
   by_fault : (s : List ℕ) → Fault m (lts flow) (lts rule) s → First m (lts flow) (lts rule) s → (v : Verdict) × Right m flow rule v
-  by_fault s (of_trace f) b = (trace_fault s, right-trace f b)
-  by_fault s (of_refusal q h f) b = let c = least_offers q f in (refusal_fault s c.0, right-refusal h c.1 b)
+  by_fault s (of_trace f) b = (trace_fault s, right_trace f b)
+  by_fault s (of_refusal q h f) b = let c = least_offers q f in (refusal_fault s c.0, right_refusal h c.1 b)
 
   pub right_exists : (v : Verdict) × Right m flow rule v
   right_exists = go (pass_or_fault m flow rule fi fs)
@@ -129,5 +129,5 @@ module _ (m : ℕ) (flow rule : Table) (fi : Fits flow) (fs : Fits rule) where
       go (inl p) =
           let F = form_exists rule fs in
           let l = pairs_exist flow rule fi fs F.0 F.1 in
-          (passes (length F.0) (length l.0), right-pass F.0 l.0 p F.1 l.1)
+          (passes (length F.0) (length l.0), right_pass F.0 l.0 p F.1 l.1)
       go (inr f) = by_fault f.trace f.fault f.first

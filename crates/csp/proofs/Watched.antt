@@ -11,14 +11,14 @@ use Rattle.csp.specs.Join.{JoinMove, left, right, both, join}
 use Rattle.csp.specs.Table.{Table, lts, Fits}
 use Rattle.csp.specs.Normal.{NormalForm}
 use Rattle.csp.specs.Watchdog.{WatchMove, watchdog, Watches, up_to}
-use Rattle.csp.proofs.Bisimilar.{bisim_sym, run-forth}
+use Rattle.csp.proofs.Bisimilar.{bisim_sym, run_forth}
 use Rattle.csp.proofs.Grouping.{join_comm}
-use Rattle.csp.proofs.Watching.{watchdog-theorem}
+use Rattle.csp.proofs.Watching.{watchdog_theorem}
 
 -- What can occur in a system can occur in one that does the same.
 pub can_forth : {A B : Lts} → Bisim A B → {e : ℕ} → Can A e → Can B e
 can_forth b c =
-    let g = run-forth b b.start c.run in
+    let g = run_forth b b.start c.run in
     let k = b.forth g.2 c.offers.by in
     record { trace = c.trace; at = g.0; run = g.1; offers = record { seen = c.offers.seen; to = k.0; by = k.1 } }
 
@@ -27,12 +27,12 @@ module _ (A B C : Lts) (X : ℕ → Bool) (b : Bisim A B) where
   abbrev Beside : A.State × C.State → B.State × C.State → Type 0
   Beside x y = b.rel x.0 y.0 × (x.1 ≡ y.1)
 
-  forth-at :
+  forth_at :
       {p p' : A.State} {r : B.State} {q q' : C.State} {e : ℕ} → b.rel p r → JoinMove A C X p q e p' q' →
       (y : B.State × C.State) × JoinMove B C X r q e y.0 y.1 × Beside (p', q') y
-  forth-at {q} s (left h m) = let f = b.forth s m in ((f.0, q), left h f.1, (f.2, refl))
-  forth-at {r} {q'} s (right h m) = ((r, q'), right h m, (s, refl))
-  forth-at {q'} s (both h m n) = let f = b.forth s m in ((f.0, q'), both h f.1 n, (f.2, refl))
+  forth_at {q} s (left h m) = let f = b.forth s m in ((f.0, q), left h f.1, (f.2, refl))
+  forth_at {r} {q'} s (right h m) = ((r, q'), right h m, (s, refl))
+  forth_at {q'} s (both h m n) = let f = b.forth s m in ((f.0, q'), both h f.1 n, (f.2, refl))
 
   back_at :
       {p : A.State} {r r' : B.State} {q q' : C.State} {e : ℕ} → b.rel p r → JoinMove B C X r q e r' q' →
@@ -46,7 +46,7 @@ module _ (A B C : Lts) (X : ℕ → Bool) (b : Bisim A B) where
     rel = Beside;
     start = (b.start, refl);
     forth = λ {x} {x'} {y} {e} s m.
-        forth-at s.0 (subst (λ (q : C.State). JoinMove A C X x.0 q e x'.0 x'.1) s.1 m);
+        forth_at s.0 (subst (λ (q : C.State). JoinMove A C X x.0 q e x'.0 x'.1) s.1 m);
     back = λ {x} {y} {y'} {e} s m.
         back_at s.0 (subst (λ (q : C.State). JoinMove B C X y.0 q e y'.0 y'.1) (sym s.1) m);
   }
@@ -72,7 +72,7 @@ module _ (rule : Table) (nodes : List ℕ) (t : Table) (w : Watches rule nodes t
 
     pub watchdog_first : Can (join (lts t) (lts flow) (up_to rule.E)) (suc rule.E) ↔ Faulty
     watchdog_first =
-        let g = watchdog-theorem flow rule fi fs sameE nodes N in
+        let g = watchdog_theorem flow rule fi fs sameE nodes N in
         (λ c. g.0 (can_forth (bisim_sym beside) c), λ f. can_forth beside (g.1 f))
 
     pub watchdog_second : Can (join (lts flow) (lts t) (up_to rule.E)) (suc rule.E) ↔ Faulty

@@ -17,10 +17,10 @@ use Rattle.csp.specs.Numbered.{At}
 use Rattle.csp.specs.Normal.{Step, NextNode, NormalForm}
 use Rattle.csp.specs.Verdict.{Met}
 use Rattle.csp.specs.Watchdog.{WatchMove, goes, falls, cries, watchdog, up_to}
-use Rattle.csp.proofs.Runs.{run-mark, run-keeps}
+use Rattle.csp.proofs.Runs.{run_mark, run_keeps}
 use Rattle.csp.proofs.Joining.{no_both}
 use Rattle.csp.proofs.Places.{at_below, at_only}
-use Rattle.csp.proofs.PairFaults.{Ends, pair→trace-fault, trace_fault→pair}
+use Rattle.csp.proofs.PairFaults.{Ends, pair→trace_fault, trace_fault→pair}
 use Rattle.csp.proofs.Product
 
 in_set : (E e : ℕ) → 0 < e → e ≤ E → shared (up_to E) e ≡ true
@@ -44,65 +44,65 @@ module _ (flow rule : Table) (fi : Fits flow) (fs : Fits rule) (sameE : flow.E �
   small m = omega (arith, fi.event_upto m)
 
   keep_quiet : {w q q' : ℕ} → (lts flow).move q 0 q' → Beside flow rule nodes w q → Beside flow rule nodes w q'
-  keep_quiet m (good s v) = good s (Product.met-quiet flow rule nodes refl v (Product.stays m))
+  keep_quiet m (good s v) = good s (Product.met_quiet flow rule nodes refl v (Product.stays m))
   keep_quiet m (bad h s f) = bad h s f
 
-  keep-go :
+  keep_go :
       {w w' e a b q q' : ℕ} → At nodes w a → NextNode (lts rule) Has a e b → At nodes w' b → (lts flow).move q e q' →
       Beside flow rule nodes w q → Beside flow rule nodes w' q'
-  keep-go {e} {a} {b} at n at' m (good s v) =
+  keep_go {e} {a} {b} at n at' m (good s v) =
       let seen = (n.holds.only n.one n.has_one).seen in
       good
       (s ++ (e ∷ []))
-      (Product.met-mark flow rule nodes s seen v
+      (Product.met_mark flow rule nodes s seen v
       (Product.goes seen (record { from = a; to = b; at_from = at; at_to = at'; next = n }) m))
-  keep-go at n at' m (bad h s f) = absurd (omega (arith, at_below at))
+  keep_go at n at' m (bad h s f) = absurd (omega (arith, at_below at))
 
-  keep-fall :
+  keep_fall :
       {w e a q q' : ℕ} → At nodes w a → 0 < e → ((y : ℕ) → Step (lts rule) (Has a) e y → ⊥) → (lts flow).move q e q' →
       Beside flow rule nodes w q → Beside flow rule nodes (length nodes) q'
-  keep-fall {w} {e} {q} {q'} at v n m (good s g) =
+  keep_fall {w} {e} {q} {q'} at v n m (good s g) =
       bad
       refl
       (s ++ (e ∷ []))
-      (pair→trace-fault flow rule nodes N (record {
+      (pair→trace_fault flow rule nodes N (record {
         i = w;
         q = q;
         met = g;
         offers = record { seen = v; to = q'; by = m };
         ends = subst (λ (x : ℕ). Ends rule x e) (at_only at g.at) n;
       }))
-  keep-fall at v n m (bad h s f) = absurd (omega (arith, at_below at))
+  keep_fall at v n m (bad h s f) = absurd (omega (arith, at_below at))
 
-  keep-both :
+  keep_both :
       {w w' e q q' : ℕ} → e ≤ rule.E → WatchMove rule nodes w e w' → (lts flow).move q e q' →
       Beside flow rule nodes w q → Beside flow rule nodes w' q'
-  keep-both h (goes at n at') m i = keep-go at n at' m i
-  keep-both h (falls at v k n) m i = keep-fall at v n m i
-  keep-both h cries m i = absurd (omega arith)
+  keep_both h (goes at n at') m i = keep_go at n at' m i
+  keep_both h (falls at v k n) m i = keep_fall at v n m i
+  keep_both h cries m i = absurd (omega arith)
 
   seen_low : {e a b : ℕ} → NextNode (lts rule) Has a e b → (0 < e) × (e ≤ rule.E)
   seen_low n = let st = n.holds.only n.one n.has_one in (st.seen, fs.event_upto st.by)
 
-  keep-alone :
+  keep_alone :
       {w w' e q : ℕ} → shared (up_to rule.E) e ≡ false → WatchMove rule nodes w e w' → Beside flow rule nodes w q →
       Beside flow rule nodes w' q
-  keep-alone {e} h (goes at n at') i = absurd (not_set rule.E e h (seen_low n).0 (seen_low n).1)
-  keep-alone {e} h (falls at v k n) i = absurd (not_set rule.E e h v k)
-  keep-alone h cries i = i
+  keep_alone {e} h (goes at n at') i = absurd (not_set rule.E e h (seen_low n).0 (seen_low n).1)
+  keep_alone {e} h (falls at v k n) i = absurd (not_set rule.E e h v k)
+  keep_alone h cries i = i
 
-  keep-flow :
+  keep_flow :
       (e : ℕ) {w q q' : ℕ} → shared (up_to rule.E) e ≡ false → (lts flow).move q e q' → Beside flow rule nodes w q →
       Beside flow rule nodes w q'
-  keep-flow zero h m i = keep_quiet m i
-  keep-flow (suc e) h m i = absurd (not_set rule.E (suc e) h (omega arith) (small m))
+  keep_flow zero h m i = keep_quiet m i
+  keep_flow (suc e) h m i = absurd (not_set rule.E (suc e) h (omega arith) (small m))
 
   keep :
       {w w' e q q' : ℕ} → JoinMove (watchdog rule nodes) (lts flow) (up_to rule.E) w q e w' q' →
       Beside flow rule nodes w q → Beside flow rule nodes w' q'
-  keep (left h m) i = keep-alone h m i
-  keep {e} (right h m) i = keep-flow e h m i
-  keep {e} (both h m n) i = keep-both (of_set rule.E e h) m n i
+  keep (left h m) i = keep_alone h m i
+  keep {e} (right h m) i = keep_flow e h m i
+  keep {e} (both h m n) i = keep_both (of_set rule.E e h) m n i
 
   -- A cry comes from state k, where there is a fault. The event is told by an equation, or the match would need axiom K.
   cried :
@@ -113,19 +113,19 @@ module _ (flow rule : Table) (fi : Fits flow) (fs : Fits rule) (sameE : flow.E �
   cried p cries (good s g) = absurd (omega (arith, at_below g.at))
   cried p cries (bad h s f) = (s, f)
 
-  cry-of :
+  cry_of :
       {w w' q q' : ℕ} → JoinMove (watchdog rule nodes) (lts flow) (up_to rule.E) w q (suc rule.E) w' q' →
       Beside flow rule nodes w q → (s : List ℕ) × TraceFault (lts flow) (lts rule) s
-  cry-of (left h m) i = cried refl m i
-  cry-of (right h m) i = absurd (omega (arith, small m))
-  cry-of (both h m n) i = absurd (omega (arith, of_set rule.E (suc rule.E) h))
+  cry_of (left h m) i = cried refl m i
+  cry_of (right h m) i = absurd (omega (arith, small m))
+  cry_of (both h m n) i = absurd (omega (arith, of_set rule.E (suc rule.E) h))
 
   pub cry→fault :
       Can (join (watchdog rule nodes) (lts flow) (up_to rule.E)) (suc rule.E) → (s : List ℕ) × TraceFault (lts flow) (lts rule) s
   cry→fault c =
-      cry-of
+      cry_of
       c.offers.by
-      (run-keeps
+      (run_keeps
       {L = join (watchdog rule nodes) (lts flow) (up_to rule.E)}
       (λ x. Beside flow rule nodes x.0 x.1)
       (λ x y e i m. keep m i)
@@ -139,12 +139,12 @@ module _ (flow rule : Table) (fi : Fits flow) (fs : Fits rule) (sameE : flow.E �
   watch_move (Product.stays m) = right refl m
   watch_move {e} (Product.goes v g m) = both (in_set rule.E e v (small m)) (goes g.at_from g.next g.at_to) m
 
-  watch-run :
+  watch_run :
       {x y : ℕ × ℕ} {s : List ℕ} → Run (Product.product flow rule nodes) x s y →
       Run (join (watchdog rule nodes) (lts flow) (up_to rule.E)) x s y
-  watch-run stop = stop
-  watch-run (quiet m r) = quiet (watch_move m) (watch-run r)
-  watch-run (mark v m r) = mark v (watch_move m) (watch-run r)
+  watch_run stop = stop
+  watch_run (quiet m r) = quiet (watch_move m) (watch_run r)
+  watch_run (mark v m r) = mark v (watch_move m) (watch_run r)
 
   pub fault→cry :
       (s : List ℕ) → TraceFault (lts flow) (lts rule) s → Can (join (watchdog rule nodes) (lts flow) (up_to rule.E)) (suc rule.E)
@@ -156,8 +156,8 @@ module _ (flow rule : Table) (fi : Fits flow) (fs : Fits rule) (sameE : flow.E �
         trace = f.front ++ (f.last ∷ []);
         at = (length nodes, o.to);
         run =
-            run-mark
-            (watch-run (Product.side_by_side flow rule fs nodes N b.met))
+            run_mark
+            (watch_run (Product.side_by_side flow rule fs nodes N b.met))
             o.seen
             (both
             (in_set rule.E f.last o.seen (small o.by))
@@ -170,7 +170,7 @@ module _ (flow rule : Table) (fi : Fits flow) (fs : Fits rule) (sameE : flow.E �
         };
       }
 
-  pub watchdog-theorem :
+  pub watchdog_theorem :
       Can (join (watchdog rule nodes) (lts flow) (up_to rule.E)) (suc rule.E) ↔
       ((s : List ℕ) × TraceFault (lts flow) (lts rule) s)
-  watchdog-theorem = (cry→fault, λ p. fault→cry p.0 p.1)
+  watchdog_theorem = (cry→fault, λ p. fault→cry p.0 p.1)

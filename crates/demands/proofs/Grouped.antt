@@ -9,7 +9,7 @@ use Rattle.csp.specs.Lts.{Lts}
 use Rattle.csp.specs.Join.{JoinMove, left, right, both, join}
 use Rattle.csp.specs.Table.{Table, lts}
 use Rattle.csp.specs.Joined.{JoinedMove, Joined}
-use Rattle.csp.proofs.Grouping.{regroup, regroup-back}
+use Rattle.csp.proofs.Grouping.{regroup, regroup_back}
 
 -- the two parts of a pair's number
 record Parts (n k x : ℕ) : Type 0 where
@@ -79,42 +79,42 @@ module _ (a b ab : Table) (X : ℕ → Bool) (j : Joined a b X ab) where
         by = f (g.p, g.q);
       }
 
-  one-move :
+  one_move :
       {p q p' q' e : ℕ} → p < a.n → q < b.n → JoinMove (lts a) (lts b) X p q e p' q' →
       JoinedMove a b X (p * b.n + q) e (p' * b.n + q')
-  one-move {p} {q} {p'} {q'} h k m =
+  one_move {p} {q} {p'} {q'} h k m =
       record { p = p; q = q; p' = p'; q' = q'; p_below = h; q_below = k; x_is = refl; y_is = refl; by = m }
 
   module _ (C : Lts) where
-    first-pair :
+    first_pair :
         {x y e : ℕ} {r r' : C.State} → x < a.n * b.n → JoinMove (lts ab) C X x r e y r' →
         Pairs (λ u v. JoinMove (join (lts a) (lts b) X) C X u r e v r') x y
-    first-pair l (left s m) = moves (λ p q p' q' k. left s k) m
-    first-pair l (right s m) = stays (λ z. right s m) l
-    first-pair l (both s m n) = moves (λ p q p' q' k. both s k n) m
+    first_pair l (left s m) = moves (λ p q p' q' k. left s k) m
+    first_pair l (right s m) = stays (λ z. right s m) l
+    first_pair l (both s m n) = moves (λ p q p' q' k. both s k n) m
 
-    second-pair :
+    second_pair :
         {x y e : ℕ} {r r' : C.State} → x < a.n * b.n → JoinMove C (lts ab) X r x e r' y →
         Pairs (λ u v. JoinMove C (join (lts a) (lts b) X) X r u e r' v) x y
-    second-pair l (right s m) = moves (λ p q p' q' k. right s k) m
-    second-pair l (left s m) = stays (λ z. left s m) l
-    second-pair l (both s m n) = moves (λ p q p' q' k. both s m k) n
+    second_pair l (right s m) = moves (λ p q p' q' k. right s k) m
+    second_pair l (left s m) = stays (λ z. left s m) l
+    second_pair l (both s m n) = moves (λ p q p' q' k. both s m k) n
 
-    first-number :
+    first_number :
         {e : ℕ} {x y : ℕ × ℕ} {r r' : C.State} → x.0 < a.n → x.1 < b.n →
         JoinMove (join (lts a) (lts b) X) C X x r e y r' →
         JoinMove (lts ab) C X (x.0 * b.n + x.1) r e (y.0 * b.n + y.1) r'
-    first-number h k (left s m) = left s (j.whole (one-move h k m))
-    first-number h k (right s m) = right s m
-    first-number h k (both s m n) = both s (j.whole (one-move h k m)) n
+    first_number h k (left s m) = left s (j.whole (one_move h k m))
+    first_number h k (right s m) = right s m
+    first_number h k (both s m n) = both s (j.whole (one_move h k m)) n
 
-    second-number :
+    second_number :
         {e : ℕ} {x y : ℕ × ℕ} {r r' : C.State} → x.0 < a.n → x.1 < b.n →
         JoinMove C (join (lts a) (lts b) X) X r x e r' y →
         JoinMove C (lts ab) X r (x.0 * b.n + x.1) e r' (y.0 * b.n + y.1)
-    second-number h k (left s m) = left s m
-    second-number h k (right s m) = right s (j.whole (one-move h k m))
-    second-number h k (both s m n) = both s m (j.whole (one-move h k n))
+    second_number h k (left s m) = left s m
+    second_number h k (right s m) = right s (j.whole (one_move h k m))
+    second_number h k (both s m n) = both s m (j.whole (one_move h k n))
 
 module _ (a b c ab bc : Table) (X : ℕ → Bool) (jab : Joined a b X ab) (jbc : Joined b c X bc) where
   -- the number of a triple, grouped either way
@@ -124,7 +124,7 @@ module _ (a b c ab bc : Table) (X : ℕ → Bool) (jab : Joined a b X ab) (jbc :
 
   pub move_right : {x e y : ℕ} → JoinedMove ab c X x e y → JoinedMove a bc X x e y
   move_right {x} {e} {y} g =
-      let f = first-pair a b ab X jab (lts c) (subst_below g.p_below) g.by in
+      let f = first_pair a b ab X jab (lts c) (subst_below g.p_below) g.by in
       record {
         p = f.p;
         q = f.q * c.n + g.q;
@@ -135,7 +135,7 @@ module _ (a b c ab bc : Table) (X : ℕ → Bool) (jab : Joined a b X ab) (jbc :
         x_is = g.x_is ∙ ap (λ (k : ℕ). k * c.n + g.q) f.x_is ∙ triple f.p f.q g.q;
         y_is = g.y_is ∙ ap (λ (k : ℕ). k * c.n + g.q') f.y_is ∙ triple f.p' f.q' g.q';
         by =
-            second-number b c bc X jbc (lts a) f.q_below g.q_below
+            second_number b c bc X jbc (lts a) f.q_below g.q_below
             (regroup (lts a) (lts b) (lts c) X f.by);
       }
     where
@@ -144,7 +144,7 @@ module _ (a b c ab bc : Table) (X : ℕ → Bool) (jab : Joined a b X ab) (jbc :
 
   pub move_left : {x e y : ℕ} → JoinedMove a bc X x e y → JoinedMove ab c X x e y
   move_left {x} {e} {y} g =
-      let f = second-pair b c bc X jbc (lts a) (subst_below g.q_below) g.by in
+      let f = second_pair b c bc X jbc (lts a) (subst_below g.q_below) g.by in
       record {
         p = g.p * b.n + f.p;
         q = f.q;
@@ -155,8 +155,8 @@ module _ (a b c ab bc : Table) (X : ℕ → Bool) (jab : Joined a b X ab) (jbc :
         x_is = g.x_is ∙ ap (λ (k : ℕ). g.p * bc.n + k) f.x_is ∙ sym (triple g.p f.p f.q);
         y_is = g.y_is ∙ ap (λ (k : ℕ). g.p' * bc.n + k) f.y_is ∙ sym (triple g.p' f.p' f.q');
         by =
-            first-number a b ab X jab (lts c) g.p_below f.p_below
-            (regroup-back (lts a) (lts b) (lts c) X f.by);
+            first_number a b ab X jab (lts c) g.p_below f.p_below
+            (regroup_back (lts a) (lts b) (lts c) X f.by);
       }
     where
       subst_below : {k : ℕ} → k < bc.n → k < b.n * c.n

@@ -6,12 +6,12 @@ use native.Mathlib.Omega.{arith}
 use Rattle.sets.specs.Sets.{has}
 use Rattle.csp.specs.Table.{lts}
 use Rattle.csp.proofs.Passing.{passes_refl, passes_trans}
-use Rattle.csp.proofs.Joins.{tables-join, tables-comm}
+use Rattle.csp.proofs.Joins.{tables_join, tables_comm}
 use Rattle.tables.specs.Bytes.{table_of}
 use Rattle.tables.specs.Valid.{refusal}
 use Rattle.tables.specs.declared.answer.Test.TheVariants.{Clear}
 use Rattle.tables.proofs.Proper.{fits}
-use Rattle.tables.proofs.Same.{Alike, tables-same}
+use Rattle.tables.proofs.Same.{Alike, tables_same}
 use Rattle.joins.specs.Joining.{Made}
 use Rattle.joins.proofs.Unique.{join-made}
 use Rattle.demands.specs.Calls.{JoinWrote, WillPass}
@@ -47,7 +47,7 @@ parts_apart mode X i s p ip sp h wi ws =
     let ji = join_is wi in
     let js = join_is ws in
     will_pass mode sp ip
-    (tables-join mode (has X) (table_of i) (table_of s) (table_of p) (table_of ip) (table_of sp) (fits i ji.first_good)
+    (tables_join mode (has X) (table_of i) (table_of s) (table_of p) (table_of ip) (table_of sp) (fits i ji.first_good)
     (fits s js.first_good) (fits p ji.second_good) ji.made.joined js.made.joined (passed h).passes)
 
 pub another_order : AnotherOrder
@@ -55,7 +55,7 @@ another_order mode X a b ab ba w v =
     let j = join_is w in
     let k = join_is v in
     will_pass mode ba ab
-    (tables-comm mode (has X) (table_of a) (table_of b) (table_of ab) (table_of ba) (fits a j.first_good) (fits b j.second_good)
+    (tables_comm mode (has X) (table_of a) (table_of b) (table_of ab) (table_of ba) (fits a j.first_good) (fits b j.second_good)
     j.made.joined k.made.joined)
 
 module _ (X : ℕ) (a b c ab bc l r : List ℕ) (jab : JoinIs a b X ab) (jbc : JoinIs b c X bc) (jl : JoinIs ab c X l) (jr : JoinIs a bc X r) where
@@ -103,7 +103,7 @@ another_grouping X a b c ab bc l r wab wbc wl wr = record {
     same =
         let jl = join_is wl in
         let jr = join_is wr in
-        tables-same l r jl.made.bytes jr.made.bytes jl.made.good jr.made.good
+        tables_same l r jl.made.bytes jr.made.bytes jl.made.good jr.made.good
         (alike X a b c ab bc l r (join_is wab) (join_is wbc) jl jr)
 
 pub assume_guarantee : AssumeGuarantee
@@ -112,6 +112,6 @@ assume_guarantee mode X m₁ m₂ a p am mm h wa g wm =
     let jm = join_is wm in
     will_pass mode p mm
     (passes_trans mode (lts (table_of mm)) (lts (table_of am)) (lts (table_of p))
-    (tables-join mode (has X) (table_of m₁) (table_of a) (table_of m₂) (table_of mm) (table_of am) (fits m₁ jm.first_good)
+    (tables_join mode (has X) (table_of m₁) (table_of a) (table_of m₂) (table_of mm) (table_of am) (fits m₁ jm.first_good)
     (fits a ja.first_good) (fits m₂ ja.second_good) jm.made.joined ja.made.joined (passed h).passes)
     (passed g).passes)

@@ -16,7 +16,7 @@ use Rattle.csp.specs.Fault.{TraceFault, of_trace}
 use Rattle.csp.specs.Join.{JoinMove, left, right, both, join, shared}
 use Rattle.csp.specs.Table.{lts}
 use Rattle.csp.specs.Watchdog.{up_to}
-use Rattle.csp.proofs.Bisimilar.{bisim_sym, iso-bisim}
+use Rattle.csp.proofs.Bisimilar.{bisim_sym, iso_bisim}
 use Rattle.csp.proofs.Faults.{pass_excludes}
 use Rattle.csp.proofs.Tables.{offers?}
 use Rattle.csp.proofs.Watched.{can_forth, watchdog_first, watchdog_second}
@@ -24,9 +24,9 @@ use Rattle.tables.specs.Bytes.{events, table_of}
 use Rattle.tables.specs.Valid.{refusal}
 use Rattle.tables.specs.declared.answer.Test.TheVariants.{Clear}
 use Rattle.tables.proofs.Proper.{fits}
-use Rattle.joins.proofs.Unique.{made-bisim}
+use Rattle.joins.proofs.Unique.{made_bisim}
 use Rattle.watchdog.specs.Asking.{Made}
-use Rattle.watchdog.proofs.Carried.{call-left}
+use Rattle.watchdog.proofs.Carried.{call_left}
 use Rattle.demands.specs.Calls.{WatchdogWrote}
 use Rattle.demands.specs.Promises.{OneTo, Watched, WatchdogFirst, WatchdogSecond}
 use Rattle.demands.proofs.Checking.{passed, broke, will_break}
@@ -41,7 +41,7 @@ module _ (A B : Lts) (X Y : ℕ → Bool) (same : (e : ℕ) → shared X e ≡ s
 
 sets_bisim : (A B : Lts) (X Y : ℕ → Bool) → ((e : ℕ) → shared X e ≡ shared Y e) → Bisim (join A B X) (join A B Y)
 sets_bisim A B X Y same =
-    iso-bisim (join A B X) (join A B Y) (λ x. x) (λ y. y) (λ y. refl) (λ x. refl) refl
+    iso_bisim (join A B X) (join A B Y) (λ x. x) (λ y. y) (λ y. refl) (λ x. refl) refl
     (λ x x' e m. by_other A B X Y same m) (λ y y' e m. by_other A B Y X (λ d. sym (same d)) m)
 
 one_to : (E X : ℕ) → OneTo E X → (e : ℕ) → shared (has X) e ≡ shared (up_to E) e
@@ -64,16 +64,16 @@ record DogIs (asked t : List ℕ) : Type 0 where
 
 dog_is : {asked t : List ℕ} → WatchdogWrote asked t → DogIs asked t
 dog_is {asked} {t} w =
-    let g = call-left asked w.work16 w.work64 w.old w.size w.call in
+    let g = call_left asked w.work16 w.work64 w.old w.size w.call in
     let e : take w.size w.new ≡ g.table = ap (λ (l : List ℕ). take w.size l) g.left ∙ take_at g.table _ w.size g.size in
     record { good = g.good; made = subst (Made (table_of asked)) (sym (w.is ∙ e)) g.made }
 
 -- where crying is having a trace fault, the calls agree
-calls-agree :
+calls_agree :
     (rule flow t : List ℕ) →
     Can (lts (table_of t)) (suc (events rule)) ↔ ((s : List ℕ) × TraceFault (lts (table_of flow)) (lts (table_of rule)) s) →
     Watched rule flow t
-calls-agree rule flow t h = record {
+calls_agree rule flow t h = record {
   cries = λ c. let f = h.0 c in will_break rule flow f.0 f.1;
   broke = λ b. h.1 (broke b);
   silent = λ p c.
@@ -88,7 +88,7 @@ through :
     ((s : List ℕ) × TraceFault (lts (table_of flow)) (lts (table_of rule)) s) → Watched rule flow t
 through rule flow t X A B one b th =
     let c = sets_bisim A B (has X) (up_to (events rule)) (one_to (events rule) X one) in
-    calls-agree rule flow t
+    calls_agree rule flow t
     (λ k. th.0 (can_forth c (can_forth (bisim_sym b) k)), λ f. can_forth b (can_forth (bisim_sym c) (th.1 f)))
 
 pub watchdog_goes_first : WatchdogFirst
@@ -96,7 +96,7 @@ watchdog_goes_first rule flow dog t X same one w j =
     let d = dog_is w in
     let g = join_is j in
     through rule flow t X (lts (table_of dog)) (lts (table_of flow)) one
-    (made-bisim dog flow g.first_good g.second_good g.made)
+    (made_bisim dog flow g.first_good g.second_good g.made)
     (watchdog_first (table_of rule) d.made.nodes (table_of dog) d.made.watches (table_of flow) (fits flow g.second_good)
     (fits rule d.good) same d.made.normal)
 
@@ -105,6 +105,6 @@ watchdog_goes_second rule flow dog t X same one w j =
     let d = dog_is w in
     let g = join_is j in
     through rule flow t X (lts (table_of flow)) (lts (table_of dog)) one
-    (made-bisim flow dog g.first_good g.second_good g.made)
+    (made_bisim flow dog g.first_good g.second_good g.made)
     (watchdog_second (table_of rule) d.made.nodes (table_of dog) d.made.watches (table_of flow) (fits flow g.first_good)
     (fits rule d.good) same d.made.normal)

@@ -43,17 +43,17 @@ draw-append [] b p o = refl
 draw-append (x ∷ a) b p o = draw-append a b (draw_one x p o).pen (draw_one x p o).out
 
 -- one row, then another
-pub draws-then :
+pub draws_then :
     {a b : List ℕ} {p q r : Pen} {o m n : List ℕ} → Draws a p o q m → Draws b q m r n → Draws (a ++ b) p o r n
-draws-then {a} {b} {p} {o = o} f g = record {
+draws_then {a} {b} {p} {o = o} f g = record {
   is = g.is ∙ ap (λ (d : Drawn). draw b d.pen d.out) f.is ∙ sym (draw-append a b p o);
 }
 
 -- a row, byte by byte
-pub draws-next :
+pub draws_next :
     (l : List ℕ) (i : ℕ) {p q r : Pen} {o m n : List ℕ} → i < length l → Draws (take i l) p o q m → Draws (get_or l i 0 ∷ []) q m r n →
     Draws (take (i + 1) l) p o r n
-draws-next l i h f g = rw (add-one, take-suc l i 0) (draws-then f g)
+draws_next l i h f g = rw (add-one, take-suc l i 0) (draws_then f g)
 
 pub draws_all : (l : List ℕ) (i : ℕ) {p q : Pen} {o m : List ℕ} → length l ≤ i → Draws (take i l) p o q m → Draws l p o q m
 draws_all l i h f = rw (take_all i l) at f
@@ -71,4 +71,4 @@ over_more b Over m e = record { is = sym (draw-over b m) }
 
 -- bytes that are too many are too many with others after them
 pub draws_over : {a : List ℕ} (b : List ℕ) {p q : Pen} {o m : List ℕ} → Draws a p o q m → is_over q ≡ true → Draws (a ++ b) p o q m
-draws_over b {q = q} {m = m} f e = draws-then f (over_more b q m e)
+draws_over b {q = q} {m = m} f e = draws_then f (over_more b q m e)

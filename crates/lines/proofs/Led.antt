@@ -12,7 +12,7 @@ use Rattle.lines.specs.Fields.{Field, word, number, bytes_of, space, apart}
 use Rattle.lines.specs.Report.{events}
 use Rattle.lines.specs.Pen.{is_over, Draws, led}
 use Rattle.lines.specs.declared.pen.Pen.{Pen}
-use Rattle.lines.proofs.Drawing.{draws_none, draws-then, draws_over}
+use Rattle.lines.proofs.Drawing.{draws_none, draws_then, draws_over}
 
 pub led-append : (f g : List Field) → led (f ++ g) ≡ led f ++ led g
 unfolding led
@@ -22,16 +22,16 @@ led-append (a ∷ f) g =
     ∙ sym (ap (λ (l : List ℕ). space ∷ l) (append_assoc (bytes_of a) (led f) (led g)))
 
 -- one row of fields, then another
-pub fields-then :
+pub fields_then :
     (f g : List Field) {p q r : Pen} {o m n : List ℕ} → Draws (led f) p o q m → Draws (led g) q m r n → Draws (led (f ++ g)) p o r n
-fields-then f g a b = rw (led-append f g) (draws-then a b)
+fields_then f g a b = rw (led-append f g) (draws_then a b)
 
 -- a word, then other fields
-pub word-then :
+pub word_then :
     (w : String) (g : List Field) {p q r : Pen} {o m n : List ℕ} → Draws (space ∷ letters w) p o q m → Draws (led g) q m r n →
     Draws (led (word w ∷ g)) p o r n
 unfolding led
-word-then w g a b = draws-then a b
+word_then w g a b = draws_then a b
 
 -- a number alone
 pub one_number : (n : ℕ) → space ∷ decimal n ≡ led (number n ∷ [])
@@ -43,10 +43,10 @@ events-append [] t = refl
 events-append (e ∷ s) t = ap (λ (l : List Field). number e ∷ l) (events-append s t)
 
 -- more events after those before
-pub events-then :
+pub events_then :
     (s t : List ℕ) {p q r : Pen} {o m n : List ℕ} → Draws (led (events s)) p o q m → Draws (led (events t)) q m r n →
     Draws (led (events (s ++ t))) p o r n
-events-then s t a b = rw (events-append s t) (fields-then (events s) (events t) a b)
+events_then s t a b = rw (events-append s t) (fields_then (events s) (events t) a b)
 
 -- a trace, event by event
 pub events-none : (p : Pen) (o : List ℕ) → Draws (led (events [])) p o p o
@@ -56,7 +56,7 @@ events-none p o = draws_none p o
 pub events-next :
     (s : List ℕ) (i : ℕ) {p q r : Pen} {o m n : List ℕ} → i < length s → Draws (led (events (take i s))) p o q m →
     Draws (led (number (get_or s i 0) ∷ [])) q m r n → Draws (led (events (take (i + 1) s))) p o r n
-events-next s i h a b = rw (add-one, take-suc s i 0) (events-then (take i s) (get_or s i 0 ∷ []) a b)
+events-next s i h a b = rw (add-one, take-suc s i 0) (events_then (take i s) (get_or s i 0 ∷ []) a b)
 
 pub events_all : (s : List ℕ) (i : ℕ) {p q : Pen} {o m : List ℕ} → length s ≤ i → Draws (led (events (take i s))) p o q m → Draws (led (events s)) p o q m
 events_all s i h f = rw (take_all i s) at f

@@ -12,15 +12,15 @@ use Rattle.lines.specs.Fields.{number, space}
 use Rattle.lines.specs.Report.{member_at, below, members, events, offered}
 use Rattle.lines.specs.Pen.{Draws, led}
 use Rattle.lines.specs.declared.pen.Pen.{Pen}
-use Rattle.lines.proofs.Led.{word-then, fields-then, events-none, events-then}
+use Rattle.lines.proofs.Led.{word_then, fields_then, events-none, events_then}
 
 below_next : (x s : ℕ) → below (x + 1) s ≡ below x s ++ member_at s x
 unfolding below
 below_next x s = rw add-one
 
-one_or-none : (b : Bool) (x : ℕ) → length (cond b (x ∷ []) []) ≤ 1
-one_or-none true x = omega arith
-one_or-none false x = omega arith
+one_or_none : (b : Bool) (x : ℕ) → length (cond b (x ∷ []) []) ≤ 1
+one_or_none true x = omega arith
+one_or_none false x = omega arith
 
 -- the count, member by member
 pub count_in : (s x : ℕ) → has s x ≡ true → 1 ≡ length (member_at s x)
@@ -40,7 +40,7 @@ pub count-below : (x s : ℕ) → length (below x s) ≤ x
 unfolding below
 count-below zero s = omega arith
 count-below (suc x) s =
-    omega (arith, length-append (below x s) (member_at s x), count-below x s, one_or-none (has s x) x)
+    omega (arith, length-append (below x s) (member_at s x), count-below x s, one_or_none (has s x) x)
 
 -- the fields, member by member
 pub members-none : (s : ℕ) (p : Pen) (o : List ℕ) → Draws (led (events (below 0 s))) p o p o
@@ -50,27 +50,27 @@ members-none s p o = events-none p o
 pub members-next :
     (x s : ℕ) {p q r : Pen} {o m n : List ℕ} → Draws (led (events (below x s))) p o q m →
     Draws (led (events (member_at s x))) q m r n → Draws (led (events (below (x + 1) s))) p o r n
-members-next x s f g = rw below_next (events-then (below x s) (member_at s x) f g)
+members-next x s f g = rw below_next (events_then (below x s) (member_at s x) f g)
 
-pub member-in :
+pub member_in :
     (s x : ℕ) {p q : Pen} {o m : List ℕ} → has s x ≡ true → Draws (led (number x ∷ [])) p o q m →
     Draws (led (events (member_at s x))) p o q m
-member-in s x e f = rw e f
+member_in s x e f = rw e f
 
 pub member_out : (s x : ℕ) (p : Pen) (o : List ℕ) → has s x ≡ false → Draws (led (events (member_at s x))) p o p o
 member_out s x p o e = rw e (events-none p o)
 
-pub members-all :
+pub members_all :
     (x s : ℕ) {p q : Pen} {o m : List ℕ} → x ≡ 64 → Draws (led (events (below x s))) p o q m → Draws (led (events (members s))) p o q m
-members-all x s e f = rw e at f
+members_all x s e f = rw e at f
 
 -- the word offers, the count, the members
-pub offered-then :
+pub offered_then :
     (s : ℕ) {k : ℕ} {p q r t : Pen} {o m n l : List ℕ} → k ≡ length (members s) → Draws (space ∷ letters "offers") p o q m →
     Draws (led (number k ∷ [])) q m r n → Draws (led (events (members s))) r n t l → Draws (led (offered s)) p o t l
-offered-then s {k} e f g h =
-    word-then
+offered_then s {k} e f g h =
+    word_then
     "offers"
     (number (length (members s)) ∷ events (members s))
     f
-    (fields-then (number (length (members s)) ∷ []) (events (members s)) (rw e at g) h)
+    (fields_then (number (length (members s)) ∷ []) (events (members s)) (rw e at g) h)

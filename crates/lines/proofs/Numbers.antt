@@ -10,7 +10,7 @@ use lib.ListN.{length, get_or, length-append, get_or-append}
 use borrow.Author.Tests.{lt-ltb, le-ltb}
 use Rattle.lines.specs.Pen.{Draws}
 use Rattle.lines.specs.declared.pen.Pen.{Pen}
-use Rattle.lines.proofs.Drawing.{draws-then}
+use Rattle.lines.proofs.Drawing.{draws_then}
 use Rattle.lines.specs.Text.{digit, digits, decimal}
 
 digits_one : (t n : ℕ) → n < 10 → digits t n ≡ digit n ∷ []
@@ -105,7 +105,7 @@ decimal_lead n e = go n n (omega arith) e
 pub draws_one : {n : ℕ} {p q : Pen} {o m : List ℕ} → n < 10 → Draws (digit n ∷ []) p o q m → Draws (decimal n) p o q m
 draws_one {n} h f = rw (decimal_one n) f
 
-pub draws-more :
+pub draws_more :
     (n : ℕ) {p q r : Pen} {o m l : List ℕ} → 10 ≤ n → Draws (decimal (n / 10)) p o q m → Draws (digit (n % 10) ∷ []) q m r l →
     Draws (decimal n) p o r l
-draws-more n h f g = rw (decimal_more n) (draws-then f g)
+draws_more n h f g = rw (decimal_more n) (draws_then f g)

@@ -56,9 +56,9 @@ counted {b} {n} {q} {o} {m} e f = go (dec_lt (length o) (length b))
         (k ∙ zero-add (length b), omega arith, ap (λ (d : Drawn). d.out) g)
 
 -- no count: the row is longer than the buffer
-pub not-counted :
+pub not_counted :
     {b : List ℕ} (q : Pen) {o m : List ℕ} → OneOf (1 ∷ 2 ∷ []) (tag_of the_type q) → Draws b (Counts 0) o q m → (length o < length b) × (m ≡ o)
-not-counted {b} q {o} {m} t f = go (dec_lt (length o) (length b))
+not_counted {b} q {o} {m} t f = go (dec_lt (length o) (length b))
   where
     go : Dec (length o < length b) → (length o < length b) × (m ≡ o)
     go (yes h) = (h, ap (λ (d : Drawn). d.out) (f.is ∙ draw_counts_over b 0 o (omega arith) (omega arith)))

@@ -104,37 +104,37 @@ let_in_all r f mode short h =
 
 -- What turns a call away has each property that all these refusals have.
 module _ (P : ℕ → ℕ → Type 0) where
-  when-each :
+  when_each :
       (b : Bool) (v j : ℕ) (later : Turned) {w k : ℕ} → (b ≡ true → P v j) → (later ≡ turned w k → P w k) →
       when b (turned v j) later ≡ turned w k → P w k
-  when-each true v j later p q h = subst₂ P (cc) (cc) (p refl)
-  when-each false v j later p q h = q h
+  when_each true v j later p q h = subst₂ P (cc) (cc) (p refl)
+  when_each false v j later p q h = q h
 
-  own-each :
+  own_each :
       (v : ℕ) (t : Test) (later : Turned) {w k : ℕ} → ((j : ℕ) → t ≡ Refuses j → P v j) → (later ≡ turned w k → P w k) →
       own v t later ≡ turned w k → P w k
-  own-each v (Refuses j) later p q h = subst₂ P (cc) (cc) (p j refl)
-  own-each v Clear later p q h = q h
+  own_each v (Refuses j) later p q h = subst₂ P (cc) (cc) (p j refl)
+  own_each v Clear later p q h = q h
 
-  pub turned-each :
+  pub turned_each :
       (r f : List ℕ) (mode : ℕ) (short : Bool) {w k : ℕ} → (wrong_mode mode ≡ true → P call 8) →
       ((j : ℕ) → refusal r ≡ Refuses j → P rule j) → ((j : ℕ) → refusal f ≡ Refuses j → P flow j) → P call 9 → P rule 10 →
       P call 11 → tests r f mode short ≡ turned w k → P w k
   unfolding tests
-  turned-each r f mode short p8 pr pf p9 p10 p11 =
-      when-each (wrong_mode mode) call 8 _ p8
-      (own-each rule (refusal r) _ pr
-      (own-each flow (refusal f) _ pf
-      (when-each (other_events r f) call 9 _ (λ h. p9)
-      (when-each (has_many_states r) rule 10 _ (λ h. p10)
-      (when-each short call 11 let_in (λ h. p11) (λ h. absurd (let z : ◌≡◌ {A = ℕ} 0 1 = cc in omega arith)))))))
+  turned_each r f mode short p8 pr pf p9 p10 p11 =
+      when_each (wrong_mode mode) call 8 _ p8
+      (own_each rule (refusal r) _ pr
+      (own_each flow (refusal f) _ pf
+      (when_each (other_events r f) call 9 _ (λ h. p9)
+      (when_each (has_many_states r) rule 10 _ (λ h. p10)
+      (when_each short call 11 let_in (λ h. p11) (λ h. absurd (let z : ◌≡◌ {A = ℕ} 0 1 = cc in omega arith)))))))
 
 -- Two good tables and a mode that is allowed are turned away by 9, 10 or 11 only.
-pub good-turned :
+pub good_turned :
     (r f : List ℕ) (mode : ℕ) (short : Bool) → mode ≤ 1 → refusal r ≡ Clear → refusal f ≡ Clear → (w k : ℕ) →
     tests r f mode short ≡ turned w k → (9 ≤ k) × (k ≤ 11)
-good-turned r f mode short m cr cf w k =
-    turned-each (λ v j. (9 ≤ j) × (j ≤ 11)) r f mode short
+good_turned r f mode short m cr cf w k =
+    turned_each (λ v j. (9 ≤ j) × (j ≤ 11)) r f mode short
     (λ h. absurd (true≢false (sym h ∙ allowed mode m)))
     (λ j h. absurd (let e = sym h ∙ cr in let z : ◌≡◌ {A = ℕ} 0 1 = cc in omega arith))
     (λ j h. absurd (let e = sym h ∙ cf in let z : ◌≡◌ {A = ℕ} 0 1 = cc in omega arith))

@@ -13,7 +13,7 @@ use Rattle.tables.specs.Answers.{rule, flow, call}
 use Rattle.tables.specs.declared.answer.Test.{Test}
 use Rattle.tables.specs.declared.answer.Test.TheVariants.{Clear, Refuses}
 use Rattle.refine.specs.Refusals.{Turned, let_in, turned, own, wrong_mode, other_events, tests}
-use Rattle.refine.specs.Checking.{Answers, turned_away, many-nodes, many-pairs, short-trace, told}
+use Rattle.refine.specs.Checking.{Answers, turned_away, many_nodes, many_pairs, short_trace, told}
 use Rattle.refine.specs.Verdicts.{Answer, refused}
 use Rattle.refine.proofs.Tested.{let_in_all}
 use Rattle.refine.proofs.Complete.{Within, trace_upto}
@@ -69,15 +69,15 @@ tests_upto r f mode s =
     (either Eleven (has_many_states r) (eleven rule 10 (omega arith) (omega arith))
     (either Eleven s (eleven call 11 (omega arith) (omega arith)) eleven_in)))))
 
-answers-upto :
+answers_upto :
     {r f : List ℕ} {mode : ℕ} {work16 work64 old new : List ℕ} {a : Answer} → Answers r f mode work16 work64 old a new →
     (w k : ℕ) → a ≡ refused w k → length old ≡ 16384 → k ≤ 13
-answers-upto {r} {f} {mode} (turned_away {w = v} {k = j} t) w k e l =
+answers_upto {r} {f} {mode} (turned_away {w = v} {k = j} t) w k e l =
     let x : j ≡ k = cc in
     omega (arith, (tests_upto r f mode _ v j t).1)
-answers-upto (many-nodes t m) w k e l = let x : 12 ≡ k = cc in omega arith
-answers-upto (many-pairs t n m) w k e l = let x : 13 ≡ k = cc in omega arith
-answers-upto {r} {f} {mode} {work16} {work64} {old} (short-trace {k = c} {v = v} t n m R s) w k e l =
+answers_upto (many_nodes t m) w k e l = let x : 12 ≡ k = cc in omega arith
+answers_upto (many_pairs t n m) w k e l = let x : 13 ≡ k = cc in omega arith
+answers_upto {r} {f} {mode} {work16} {work64} {old} (short_trace {k = c} {v = v} t n m R s) w k e l =
     let i = let_in_all r f mode _ t in
     let W : Within r f mode work16 work64 =
     record {
@@ -92,8 +92,8 @@ answers-upto {r} {f} {mode} {work16} {work64} {old} (short-trace {k = c} {v = v}
       room = m;
     } in
     absurd (omega (arith, trace_upto r f mode work16 work64 old W v R))
-answers-upto (told t n m R s) w k e l = absurd (let z : ◌≡◌ {A = ℕ} 0 1 = cc in omega arith)
+answers_upto (told t n m R s) w k e l = absurd (let z : ◌≡◌ {A = ℕ} 0 1 = cc in omega arith)
 
 -- "Its trace buffer has 16,384 bytes, so 14 is never printed."
 pub never_14 : (r f : List ℕ) (mode w k : ℕ) → Answered r f mode (refused w k) → k ≤ 13
-never_14 r f mode w k a = answers-upto a.answers w k refl (length-replicate {A = ℕ} 16384 0)
+never_14 r f mode w k a = answers_upto a.answers w k refl (length-replicate {A = ℕ} 16384 0)

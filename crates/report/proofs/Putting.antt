@@ -15,7 +15,7 @@ use Rattle.lines.specs.Report.{report_line}
 use Rattle.lines.specs.Maker.{Made, makes}
 use Rattle.lines.specs.declared.answer.Line.{Line}
 use Rattle.lines.specs.declared.answer.Line.TheVariants.{Wrote, Short}
-use Rattle.lines.proofs.Making.{line-written}
+use Rattle.lines.proofs.Making.{line_written}
 use Rattle.report.specs.Report.{Answered, Put, LineCall, ReportCall}
 use Rattle.report.proofs.Few.{line_few}
 
@@ -29,7 +29,7 @@ module _ (r f : List ℕ) (mode : ℕ) (v : Verdict) (left16 left64 t old : List
     answer = Wrote (length (report_line mode (answer_of v t)));
     out = over (report_line mode (answer_of v t)) old;
   }
-  fits = line-written v t mode old C.whole (omega (arith, line_few line_answered))
+  fits = line_written v t mode old C.whole (omega (arith, line_few line_answered))
 
   -- the line maker never answers that there is no room
   pub never_no_room : (m : Line) → m ≡ (makes v t mode old).answer → m ≡ Short → ⊥
@@ -37,10 +37,10 @@ module _ (r f : List ℕ) (mode : ℕ) (v : Verdict) (left16 left64 t old : List
       let w = ap (λ (x : Made). x.answer) fits in
       let z : ◌≡◌ {A = ℕ} 0 1 = cc in omega arith
 
-  pub line-put :
+  pub line_put :
       (m : Line) (n : ℕ) (new : List ℕ) → m ≡ (makes v t mode old).answer → new ≡ (makes v t mode old).out → m ≡ Wrote n →
       LineCall r f mode old n new
-  line-put m n new e g h =
+  line_put m n new e g h =
       let w = ap (λ (x : Made). x.answer) fits in
       record {
         line = report_line mode (answer_of v t);
@@ -84,11 +84,11 @@ put_then x y old mid end new n m a b e = record { size_is = omega (arith, a.size
         ∙ sym (append_assoc x y (drop (length (x ++ y)) old))
 
 -- both lines
-pub lines-put :
+pub lines_put :
     (r f old mid end new : List ℕ) (n m : ℕ) → LineCall r f 0 old n mid →
     LineCall r f 1 (take (length mid - n) (drop n mid)) m end → new ≡ put_mid n (length mid - n) mid end →
     ReportCall r f old (n + m) new
-lines-put r f old mid end new n m a b e = record {
+lines_put r f old mid end new n m a b e = record {
   text = a.line ++ b.line;
   is = record { traces = a.line; failures = b.line; first = a.is; second = b.is; is = refl };
   put = put_then a.line b.line old mid end new n m a.put b.put e;

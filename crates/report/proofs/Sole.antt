@@ -18,9 +18,9 @@ text_unique r f x y a b =
     ∙ ap₂ ◌++◌ (line_unique r f 0 _ _ a.first b.first) (line_unique r f 1 _ _ a.second b.second)
     ∙ sym b.is
 
-pub report-unique :
+pub report_unique :
     (r f old : List ℕ) (n m : ℕ) (x y : List ℕ) → ReportCall r f old n x → ReportCall r f old m y → (n ≡ m) × (x ≡ y)
-report-unique r f old n m x y a b =
+report_unique r f old n m x y a b =
     let e = text_unique r f a.text b.text a.is b.is in (
       a.put.size_is ∙ ap length e ∙ sym b.put.size_is,
       a.put.new_is ∙ ap (λ (l : List ℕ). over l old) e ∙ sym b.put.new_is,

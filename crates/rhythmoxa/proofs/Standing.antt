@@ -114,10 +114,10 @@ module _ (t part : List ℕ) (s : ℕ) (is : part ≡ moves_of t s) where
     part_good = good t (has_moves t s more)
 
     -- else it begins where the search for the state stops
-    pub placed-some :
+    pub placed_some :
         (i : ℕ) (p : Part) → Seeks (drop 12 t) (count t) 0 s i → p.offset ≡ 12 + 6 * i → p.size ≡ length part → Placed t s p
     unfolding begins
-    placed-some i p q o z =
+    placed_some i p q o z =
         let g = part_good in
         let b = part_bytes t (has_moves t s more) s in
         let a = g.moves.ascending in

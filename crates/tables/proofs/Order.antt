@@ -72,14 +72,14 @@ before_trans {a} {c} (by_to e f h) (by_event g k) = let j : a.event < c.event = 
 before_trans {a} {c} (by_to e f h) (by_to g l k) = let j : a.to < c.to = omega arith in by_to (e ∙ g) (f ∙ l) j
 
 -- Ascending lists with the same members are the same list.
-pub ascending-unique :
+pub ascending_unique :
     (l k : List Move) → Ascending l → Ascending k → ((x : Move) → Memᴰ x l → Memᴰ x k) →
     ((x : Move) → Memᴰ x k → Memᴰ x l) → l ≡ k
-ascending-unique [] [] p q f g = refl
-ascending-unique [] (b ∷ k) p q f g = absurd (Memᴰ.not-nil (g b (Memᴰ.head refl)))
-ascending-unique (a ∷ l) [] p q f g = absurd (Memᴰ.not-nil (f a (Memᴰ.head refl)))
-ascending-unique (a ∷ l) (b ∷ k) (more m p) (more n q) f g =
-    ap₂ (λ (x : Move) (y : List Move). x ∷ y) same (ascending-unique l k p q (down l k m f same) (down k l n g (sym same)))
+ascending_unique [] [] p q f g = refl
+ascending_unique [] (b ∷ k) p q f g = absurd (Memᴰ.not-nil (g b (Memᴰ.head refl)))
+ascending_unique (a ∷ l) [] p q f g = absurd (Memᴰ.not-nil (f a (Memᴰ.head refl)))
+ascending_unique (a ∷ l) (b ∷ k) (more m p) (more n q) f g =
+    ap₂ (λ (x : Move) (y : List Move). x ∷ y) same (ascending_unique l k p q (down l k m f same) (down k l n g (sym same)))
   where
     same : a ≡ b
     same = go (Memᴰ.cases_cons (f a (Memᴰ.head refl))) (Memᴰ.cases_cons (g b (Memᴰ.head refl)))

@@ -50,8 +50,8 @@ module _ (t old : List ℕ) where
         let w = read_refused k h in
         record { answer = ap (λ (x : Given). x.says) (sym w); list = ap (λ (x : Given). x.list) (sym w); bytes = b }
 
-    pub call-short : refusal t ≡ Clear → length old < 3 * count t → ReadCall t old (read.Refused (Call 18)) old
-    call-short h k =
+    pub call_short : refusal t ≡ Clear → length old < 3 * count t → ReadCall t old (read.Refused (Call 18)) old
+    call_short h k =
         let w = read_short h k in
         record { answer = ap (λ (x : Given). x.says) (sym w); list = ap (λ (x : Given). x.list) (sym w); bytes = b }
 

@@ -98,11 +98,11 @@ module _ (n E s : ℕ) (l : List ℕ) (h : list_refusal n E s l ≡ Clear) where
       ∙ rw (states_is t, events_is t, start_is t, m, e) refl
 
 -- Of the calls, whatever buffer is written into: the bytes written are read back.
-pub write-then-read :
+pub write_then_read :
     (n E s size : ℕ) (l out out' old new : List ℕ) (r : Read) →
     WriteCall n E s l out (built.Wrote size) out' → ReadCall (take size out') old r new → length l ≤ length old →
     (r ≡ read.Table n E s (length l / 3)) × (new ≡ over l old)
-write-then-read n E s size l out out' old new r p q k =
+write_then_read n E s size l out out' old new r p q k =
     let w = wrote_says n E s l out size (sym p.answer) in
     let t : List ℕ = encoded (table_from n E s l) in
     let e : take size out' ≡ t =
@@ -141,11 +141,11 @@ module _ (t : List ℕ) (c : refusal t ≡ Clear) where
       ∙ rw (e, n) refl
 
 -- Of the calls, whatever list is read into: the numbers given back are written back, byte for byte.
-pub read-then-write :
+pub read_then_write :
     (n E s m : ℕ) (t old new out out' : List ℕ) (r : Built) →
     ReadCall t old (read.Table n E s m) new → WriteCall n E s (take (3 * m) new) out r out' → length t ≤ length out →
     (r ≡ built.Wrote (length t)) × (out' ≡ over t out)
-read-then-write n E s m t old new out out' r p q k =
+read_then_write n E s m t old new out out' r p q k =
     let w = gave t old (sym p.answer) in
     let x : 3 * m ≡ length (list_of t) = omega (arith, w.moves, length_list t (good t w.clear)) in
     let e : take (3 * m) new ≡ list_of t =

@@ -7,7 +7,7 @@ use Rattle.tables.specs.Numbers.{AllBytes}
 use Rattle.tables.specs.Bytes.{table_of, encoded}
 use Rattle.tables.specs.Valid.{refusal}
 use Rattle.tables.specs.declared.answer.Test.TheVariants.{Clear}
-use Rattle.tables.proofs.Order.{ascending-unique}
+use Rattle.tables.proofs.Order.{ascending_unique}
 use Rattle.tables.proofs.Tested.{good}
 use Rattle.tables.proofs.Proper.{Proper, proper}
 use Rattle.tables.proofs.Encoded.{encoded_again}
@@ -24,13 +24,13 @@ pub alike_same : (a b : Table) → Proper a → Proper b → Alike a b → a ≡
 alike_same a b p q k i = record { n = k.n i; E = k.E i; start = k.start i; moves = moves i }
   where
     moves : a.moves ≡ b.moves
-    moves = ascending-unique a.moves b.moves p.ascending q.ascending k.there k.back
+    moves = ascending_unique a.moves b.moves p.ascending q.ascending k.there k.back
 
 -- What a builder writes is the one good table with these moves.
 pub encoded_same : (a : Table) (u : List ℕ) → Proper a → AllBytes u → refusal u ≡ Clear → Alike a (table_of u) → encoded a ≡ u
 encoded_same a u p bu cu k = ap encoded (alike_same a (table_of u) p (proper u cu) k) ∙ encoded_again u (good u cu) bu
 
-pub tables-same :
+pub tables_same :
     (t u : List ℕ) → AllBytes t → AllBytes u → refusal t ≡ Clear → refusal u ≡ Clear → Alike (table_of t) (table_of u) → t ≡ u
-tables-same t u bt bu ct cu k =
+tables_same t u bt bu ct cu k =
     sym (encoded_again t (good t ct) bt) ∙ encoded_same (table_of t) u (proper t ct) bu cu k

@@ -105,8 +105,8 @@ module _ (n E s : ℕ) (l old : List ℕ) where
   pub call_refused : (k : ℕ) → list_refusal n E s l ≡ Refuses k → WriteCall n E s l old (built.Refused (Rule k)) old
   call_refused k h = let w = write_refused k h in record { answer = ap (λ (x : Written). x.says) (sym w); buffer = ap (λ (x : Written). x.out) (sym w) }
 
-  pub call-short : list_refusal n E s l ≡ Clear → length old < 12 + 2 * length l → WriteCall n E s l old (built.Refused (Call 18)) old
-  call-short h k = let w = write_short h k in record { answer = ap (λ (x : Written). x.says) (sym w); buffer = ap (λ (x : Written). x.out) (sym w) }
+  pub call_short : list_refusal n E s l ≡ Clear → length old < 12 + 2 * length l → WriteCall n E s l old (built.Refused (Call 18)) old
+  call_short h k = let w = write_short h k in record { answer = ap (λ (x : Written). x.says) (sym w); buffer = ap (λ (x : Written). x.out) (sym w) }
 
   pub call_done : (new : List ℕ) → list_refusal n E s l ≡ Clear → 12 + 2 * length l ≤ length old →
       new ≡ over (encoded (table_from n E s l)) old → WriteCall n E s l old (built.Wrote (12 + 2 * length l)) new

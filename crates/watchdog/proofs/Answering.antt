@@ -42,15 +42,15 @@ module _ (asked : List ℕ) (lacks : Bool) (old : List ℕ) where
       subst (λ (x : Refusal). Answers asked lacks old (refused (whose x) (number_of x)) old) q a
 
   -- where a test refuses, the call is refused
-  pub tested-refused :
+  pub tested_refused :
       {e : Early} (w : Refusal) → Tested asked lacks e → e ≡ early.Refused w →
       Answers asked lacks old (refused (whose w) (number_of w)) old
-  tested-refused w (no_table h) q = said q (λ a b s. asking.no_table h)
-  tested-refused w (many_states h k) q = said q (λ a b s. table h (refuses k))
-  tested-refused w (all_events r k) q = said q (λ a b s. table r.clear (passes (few_states asked r) (refuses k)))
-  tested-refused w (short_work r k l) q =
+  tested_refused w (no_table h) q = said q (λ a b s. asking.no_table h)
+  tested_refused w (many_states h k) q = said q (λ a b s. table h (refuses k))
+  tested_refused w (all_events r k) q = said q (λ a b s. table r.clear (passes (few_states asked r) (refuses k)))
+  tested_refused w (short_work r k l) q =
       said q (λ a b s. table r.clear (passes (few_states asked r) (passes k (refuses (sym s ∙ l)))))
-  tested-refused w (passed r k l) q = absurd (let z : ◌≡◌ {A = ℕ} 0 1 = cc in omega arith)
+  tested_refused w (passed r k l) q = absurd (let z : ◌≡◌ {A = ℕ} 0 1 = cc in omega arith)
 
   -- where none does, the nodes decide
   pub record Passed : Type 0 where

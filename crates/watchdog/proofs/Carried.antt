@@ -52,15 +52,15 @@ module _ (asked work16 work64 old : List ℕ) (n : ℕ) where
   builds_left (no_table h) e = absurd (let z : ◌≡◌ {A = ℕ} 0 1 = cc in omega arith)
   builds_left (table h r) e = writes_left h (past e (past e (past e (past e r)))) e
 
-  pub call-left :
+  pub call_left :
       {left16 left64 new : List ℕ} → WatchdogCall asked work16 work64 old (Wrote n) left16 left64 new → Written asked old n new
-  call-left c = builds_left c.builds refl
+  call_left c = builds_left c.builds refl
 
 -- The theorem, of the n bytes that a call wrote, joined as the first table or as the second.
 module _ (asked work16 work64 old : List ℕ) (n : ℕ) (left16 left64 new : List ℕ)
     (c : WatchdogCall asked work16 work64 old (Wrote n) left16 left64 new) where
   written : Written asked old n new
-  written = call-left asked work16 work64 old n c
+  written = call_left asked work16 work64 old n c
 
   watches : Watches (table_of asked) written.made.nodes (table_of (take n new))
   watches =
@@ -68,16 +68,16 @@ module _ (asked work16 work64 old : List ℕ) (n : ℕ) (left16 left64 new : Lis
       subst (λ (l : List ℕ). Watches (table_of asked) written.made.nodes (table_of l)) (sym is) written.made.watches
 
   module _ (flow : Table) (f : Fits flow) (same : flow.E ≡ events asked) where
-    pub watched-first :
+    pub watched_first :
         Can (join (lts (table_of (take n new))) (lts flow) (up_to (events asked))) (suc (events asked)) ↔
         ((s : List ℕ) × TraceFault (lts flow) (lts (table_of asked)) s)
-    watched-first =
+    watched_first =
         watchdog_first (table_of asked) written.made.nodes (table_of (take n new)) watches flow f (fits asked written.good) same
         written.made.normal
 
-    pub watched-second :
+    pub watched_second :
         Can (join (lts flow) (lts (table_of (take n new))) (up_to (events asked))) (suc (events asked)) ↔
         ((s : List ℕ) × TraceFault (lts flow) (lts (table_of asked)) s)
-    watched-second =
+    watched_second =
         watchdog_second (table_of asked) written.made.nodes (table_of (take n new)) watches flow f (fits asked written.good) same
         written.made.normal

@@ -9,7 +9,7 @@ use Rattle.csp.proofs.Unique.{form_unique}
 use Rattle.tables.specs.Bytes.{table_of}
 use Rattle.tables.specs.Answers.{Says, refused, rule, built_says}
 use Rattle.tables.specs.declared.answer.Built.{Built}
-use Rattle.tables.proofs.Same.{Alike, tables-same}
+use Rattle.tables.proofs.Same.{Alike, tables_same}
 use Rattle.tables.proofs.Unique.{built_one}
 use Rattle.watchdog.specs.Asking.{Made, Unless, refuses, passes, Puts, no_room, put, Writes, Builds, no_table, table, WatchdogCall}
 
@@ -30,7 +30,7 @@ alike v w = record {
 
 pub made_one : (asked : Table) (t u : List ℕ) → Made asked t → Made asked u → t ≡ u
 made_one asked t u a b =
-    tables-same t u a.bytes b.bytes a.good b.good
+    tables_same t u a.bytes b.bytes a.good b.good
     (alike
     a.watches
     (subst
@@ -76,11 +76,11 @@ pub record SameCall (a b : Built) (x16 y16 x64 y64 x y : List ℕ) : Type 0 wher
   pub left64 : x64 ≡ y64
   pub new : x ≡ y
 
-pub watchdog-unique :
+pub watchdog_unique :
     (asked work16 work64 old : List ℕ) (a b : Built) (x16 y16 x64 y64 x y : List ℕ) →
     WatchdogCall asked work16 work64 old a x16 x64 x → WatchdogCall asked work16 work64 old b y16 y64 y →
     SameCall a b x16 y16 x64 y64 x y
-watchdog-unique asked work16 work64 old a b x16 y16 x64 y64 x y p q =
+watchdog_unique asked work16 work64 old a b x16 y16 x64 y64 x y p q =
     let s = builds_one (built_says a) (built_says b) x y p.builds q.builds in
     record {
       answer = built_one a b s.says;

@@ -54,7 +54,7 @@ watch_length f = length-encoded (watch_table f) ∙ ap (λ (m : ℕ). 12 + 6 * m
 pub rows_few : (k E : ℕ) → k ≤ 64 → E < 63 → k * E ≤ 3968
 rows_few k E h l = let e : E ≤ 62 = omega arith in mul-le-mul h e
 
-pub puts-put :
+pub puts_put :
     (t old new : List ℕ) (size : ℕ) → size ≡ length t → size ≤ length old → new ≡ over t old → Puts t old (wrote size) new
-puts-put t old new size e h q =
+puts_put t old new size e h q =
     subst₂ (λ (n : ℕ) (x : List ℕ). Puts t old (wrote n) x) (sym e) (sym q) (put (omega arith))

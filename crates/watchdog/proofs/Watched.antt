@@ -63,15 +63,15 @@ module _ (next : List ℕ) (k E : ℕ) where
           (subst (λ (x : ℕ). Memᴰ (node_move next k x d) (row (node_move next k m) E)) (sym e) (in_row (node_move next k m) E d l))
 
   -- they ascend
-  row-rises :
+  row_rises :
       (l : List Move) (i m : ℕ) → Ascending l → ((v : Move) → Memᴰ v l → v.from < i) → Ascending (l ++ row (node_move next k i) m)
   unfolding row
-  row-rises l i zero a b = rw append-nil a
-  row-rises l i (suc m) a b =
+  row_rises l i zero a b = rw append-nil a
+  row_rises l i (suc m) a b =
       subst
       Ascending
       (append_assoc l (row (node_move next k i) m) (node_move next k i m ∷ []))
-      (ascending_snoc (l ++ row (node_move next k i) m) (node_move next k i m) (row-rises l i m a b) (λ x h. before x (Memᴰ.append_cases l h)))
+      (ascending_snoc (l ++ row (node_move next k i) m) (node_move next k i m) (row_rises l i m a b) (λ x h. before x (Memᴰ.append_cases l h)))
     where
       before : (x : Move) → Memᴰ x l ⊎ Memᴰ x (row (node_move next k i) m) → Before x (node_move next k i m)
       before x (inl h) = by_from (b x h)
@@ -86,7 +86,7 @@ module _ (next : List ℕ) (k E : ℕ) where
   unfolding node_moves
   nodes_rise zero = none
   nodes_rise (suc m) =
-      row-rises (node_moves next k E m) m E (nodes_rise m)
+      row_rises (node_moves next k E m) m E (nodes_rise m)
       (λ v h. let a = of_nodes m v h in omega (arith, a.node, ap (λ (x : Move). x.from) a.is))
 
   watch_rises : Ascending (watch_moves next k E)
@@ -140,10 +140,10 @@ module _ (rule : Table) (fits : Fits rule) (nodes : List ℕ) (f : Form) (w : Fo
           moved a.is (cell-move a.node (omega arith) (omega (arith, a.event)) (cell_at a.i a.d a.node a.event))
       go (inr p) = moved (sym (Memᴰ.eq_of_singleton p)) last
 
-  node-move :
+  node_stepped :
       (i e j : ℕ) → i < f.count → 0 < e → e ≤ f.events → target (get_or f.next (64 * i + (e - 1 + 1)) 0) f.count ≡ j →
       Memᴰ (move i e j) (watch_table f).moves
-  node-move i e j b s u q =
+  node_stepped i e j b s u q =
       Memᴰ.append_left (move f.count (f.events + 1) f.count ∷ [])
       (Memᴰ.cast
       (same_move refl (omega arith) (sym q))
@@ -162,13 +162,13 @@ module _ (rule : Table) (fits : Fits rule) (nodes : List ℕ) (f : Form) (w : Fo
       let st = n.holds.only n.one n.has_one in
       let b : i < f.count = omega (arith, at_below at, w.count_is) in
       let u : e ≤ f.events = omega (arith, fits.event_upto st.by, w.events_is) in
-      node-move i e j b st.seen u
+      node_stepped i e j b st.seen u
       (ap (λ (v : ℕ). target v f.count) (cell_one rule nodes w.normal.once (cell_of i e b st.seen u) (leads at n at'))
       ∙ target-some j f.count (omega (arith, at_below at', w.upto)))
   whole {i} {e} (falls at s u n) =
       let b : i < f.count = omega (arith, at_below at, w.count_is) in
       let v : e ≤ f.events = omega (arith, w.events_is) in
-      node-move i e (length nodes) b s v
+      node_stepped i e (length nodes) b s v
       (target_none _ f.count (cell-none rule nodes (cell_of i e b s v) at n) ∙ w.count_is)
   whole cries =
       Memᴰ.append_right (node_moves f.next f.count f.events f.count)

@@ -1,5 +1,5 @@
 use borrow.Author.Rules.{rules}
-use Rattle.lines.proofs.Making.{draws-line}
+use Rattle.lines.proofs.Making.{draws_line}
 use Rattle.lines.proofs.draw.Statement.{statement}
 use Rattle.lines.proofs.draw.Tie as tie
 
@@ -16,7 +16,7 @@ same_length : tie.Need-same-length
 same_length c = search rules
 
 returns : tie.Need-returns
-returns c = draws-line _ _ c.before.before.before.before.before.before.before.before.before.before.mode-word.ensures c.before.before.before.before.before.before.verdict.ensures c.before.before.byte.ensures
+returns c = draws_line _ _ c.before.before.before.before.before.before.before.before.before.before.mode-word.ensures c.before.before.before.before.before.before.verdict.ensures c.before.before.byte.ensures
 
 pub draw_spec : {M : Type 1} → statement M
 draw_spec =

@@ -1,6 +1,6 @@
 use borrow.Author.Rules.{rules}
 use Rattle.lines.specs.Text.{letters}
-use Rattle.lines.proofs.Making.{draws_traces, draws-failures}
+use Rattle.lines.proofs.Making.{draws_traces, draws_failures}
 use Rattle.lines.proofs.mode_word.Statement.{statement}
 use Rattle.lines.proofs.mode_word.Tie as tie
 
@@ -28,7 +28,7 @@ same-length-2 c = search rules
 
 returns-2 : tie.Need-returns-2
 unfolding letters
-returns-2 c = draws-failures _ c.before.before.before.before.before.if1.false c.before.before.word2.ensures
+returns-2 c = draws_failures _ c.before.before.before.before.before.if1.false c.before.before.word2.ensures
 
 pub mode_word_spec : {M : Type 1} → statement M
 mode_word_spec =

@@ -1,5 +1,5 @@
 use borrow.Author.Rules.{rules}
-use Rattle.lines.proofs.Drawing.{draws-then}
+use Rattle.lines.proofs.Drawing.{draws_then}
 use Rattle.lines.proofs.fields.next_word.Statement.{statement}
 use Rattle.lines.proofs.fields.next_word.Tie as tie
 
@@ -13,7 +13,7 @@ same_length : tie.Need-same-length
 same_length c = search rules
 
 returns : tie.Need-returns
-returns c = draws-then c.before.before.before.before.before.before.byte.ensures c.before.before.word.ensures
+returns c = draws_then c.before.before.before.before.before.before.byte.ensures c.before.before.word.ensures
 
 pub next_word_spec : {M : Type 1} → statement M
 next_word_spec = tie.close (tie.spec byte-requires word-requires same_length returns)

@@ -5,7 +5,7 @@ use Prim.Native.Nat.{◌-◌, ◌≤◌}
 use lib.ListN.{length}
 use Rattle.lines.specs.Report.{below, events}
 use Rattle.lines.specs.Pen.{Draws, led}
-use Rattle.lines.proofs.Members.{members-none, members-next, members-all}
+use Rattle.lines.proofs.Members.{members-none, members-next, members_all}
 use Rattle.lines.proofs.offers.members.Statement.{statement}
 use Rattle.lines.proofs.offers.members.Tie as tie
 
@@ -34,7 +34,7 @@ same_length : tie.Need-same-length invariant-loop decreases-loop
 same_length c = search rules
 
 returns : tie.Need-returns invariant-loop decreases-loop
-returns c = members-all c.before.loop.x c.before.before.before.args.set (omega arith) c.before.loop.invariant.2
+returns c = members_all c.before.loop.x c.before.before.before.args.set (omega arith) c.before.loop.invariant.2
 
 pub members_spec : {M : Type 1} → statement M
 members_spec =

@@ -1,6 +1,6 @@
 use borrow.Author.Rules.{rules}
 use Rattle.lines.specs.Text.{letters}
-use Rattle.lines.proofs.Members.{offered-then}
+use Rattle.lines.proofs.Members.{offered_then}
 use Rattle.lines.proofs.offers.offers.Statement.{statement}
 use Rattle.lines.proofs.offers.offers.Tie as tie
 
@@ -24,7 +24,7 @@ same_length c = search rules
 
 returns : tie.Need-returns
 unfolding letters
-returns c = offered-then _ c.before.before.before.before.before.before.before.before.count.ensures c.before.before.before.before.before.before.before.before.before.before.before.next_word.ensures c.before.before.before.before.before.before.next-number.ensures c.before.before.members.ensures
+returns c = offered_then _ c.before.before.before.before.before.before.before.before.count.ensures c.before.before.before.before.before.before.before.before.before.before.before.next_word.ensures c.before.before.before.before.before.before.next-number.ensures c.before.before.members.ensures
 
 pub offers_spec : {M : Type 1} → statement M
 offers_spec =

@@ -1,6 +1,6 @@
 use borrow.Author.Rules.{rules}
 use Prim.Native.Nat.{ℕ, ◌<◌}
-use Rattle.lines.proofs.Numbers.{draws_one, draws-more}
+use Rattle.lines.proofs.Numbers.{draws_one, draws_more}
 use borrow.Fn.Kinds.{In}
 use borrow.Fn.PlainCycle.{Measures, is, falls, and}
 use Rattle.lines.proofs.pen.number.Reads as number
@@ -105,7 +105,7 @@ number-returns-2 : (t : ℕ) → number-lts.Need-returns-2 (
   number-below t,
   number.Post,
 ) (number_at t) number.Post
-number-returns-2 t c = draws-more _ c.before.before.before.before.before.before.before.before.if1.false c.before.before.before.before.before.before.number.ensures c.before.before.byte2.ensures
+number-returns-2 t c = draws_more _ c.before.before.before.before.before.before.before.before.if1.false c.before.before.before.before.before.before.number.ensures c.before.before.byte2.ensures
 
 pub number_spec : {M : Type 1} → statement M
 number_spec = close μ-number λ t. number-lts.spec (

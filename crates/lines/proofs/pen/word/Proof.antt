@@ -3,7 +3,7 @@ use mathlib.Core.Path.{◌≡◌, refl}
 use Prim.Native.Nat.{◌-◌, ◌≤◌}
 use lib.ListN.{length, take}
 use Rattle.lines.specs.Pen.{Draws}
-use Rattle.lines.proofs.Drawing.{draws_none, draws-next, draws_all}
+use Rattle.lines.proofs.Drawing.{draws_none, draws_next, draws_all}
 use Rattle.lines.proofs.pen.word.Statement.{statement}
 use Rattle.lines.proofs.pen.word.Tie as tie
 
@@ -29,7 +29,7 @@ loop-less : tie.Need-loop-smaller invariant-loop decreases-loop
 loop-less c = search rules
 
 loop-again : tie.Need-loop-preserved invariant-loop decreases-loop
-loop-again c = (search rules, search rules, draws-next _ _ c.before.before.before.before.before.loop-test.true c.before.before.before.before.before.before.loop.invariant.2 c.before.before.byte.ensures)
+loop-again c = (search rules, search rules, draws_next _ _ c.before.before.before.before.before.loop-test.true c.before.before.before.before.before.before.loop.invariant.2 c.before.before.byte.ensures)
 
 same_length : tie.Need-same-length invariant-loop decreases-loop
 same_length c = search rules

@@ -1,6 +1,6 @@
 use borrow.Author.Rules.{rules}
 use Rattle.lines.specs.Text.{letters}
-use Rattle.lines.proofs.Led.{word-then}
+use Rattle.lines.proofs.Led.{word_then}
 use Rattle.lines.proofs.verdict.pass.Statement.{statement}
 use Rattle.lines.proofs.verdict.pass.Tie as tie
 
@@ -18,7 +18,7 @@ same_length c = search rules
 
 returns : tie.Need-returns
 unfolding letters
-returns c = word-then "holds" _ c.before.before.before.before.before.before.next_word.ensures c.before.before.two-numbers.ensures
+returns c = word_then "holds" _ c.before.before.before.before.before.before.next_word.ensures c.before.before.two-numbers.ensures
 
 pub pass_spec : {M : Type 1} → statement M
 pass_spec =

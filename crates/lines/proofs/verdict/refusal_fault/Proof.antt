@@ -4,7 +4,7 @@ use Rattle.lines.specs.Text.{letters}
 use Rattle.lines.specs.Fields.{number}
 use Rattle.lines.specs.Report.{events}
 use mathlib.Core.List.{◌∷◌}
-use Rattle.lines.proofs.Led.{word-then, fields-then}
+use Rattle.lines.proofs.Led.{word_then, fields_then}
 use Rattle.lines.proofs.verdict.refusal_fault.Statement.{statement}
 use Rattle.lines.proofs.verdict.refusal_fault.Tie as tie
 
@@ -25,7 +25,7 @@ same_length c = search rules
 
 returns : tie.Need-returns
 unfolding letters
-returns c = let s = c.before.before.before.before.before.before.before.before.before.before.before.before.before.before.before.args.s.now in word-then "refusal-fault" _ c.before.before.before.before.before.before.before.before.before.before.next_word.ensures (fields-then (number (length s) ∷ events s) _ c.before.before.before.before.before.before.traced.ensures c.before.before.offers.ensures)
+returns c = let s = c.before.before.before.before.before.before.before.before.before.before.before.before.before.before.before.args.s.now in word_then "refusal-fault" _ c.before.before.before.before.before.before.before.before.before.before.next_word.ensures (fields_then (number (length s) ∷ events s) _ c.before.before.before.before.before.before.traced.ensures c.before.before.offers.ensures)
 
 pub refusal_fault_spec : {M : Type 1} → statement M
 refusal_fault_spec =

@@ -1,6 +1,6 @@
 use borrow.Author.Rules.{rules}
 use Rattle.lines.specs.Text.{letters}
-use Rattle.lines.proofs.Led.{word-then}
+use Rattle.lines.proofs.Led.{word_then}
 use Rattle.lines.proofs.verdict.refused.Statement.{statement}
 use Rattle.lines.proofs.verdict.refused.Tie as tie
 
@@ -42,21 +42,21 @@ same_length c = search rules
 
 returns : tie.Need-returns
 unfolding letters
-returns c = rw c.before.before.before.before.before.w.given.1 (word-then "refused" _ c.before.before.before.before.before.before.before.before.before.next_word.ensures c.before.before.two-numbers.ensures)
+returns c = rw c.before.before.before.before.before.w.given.1 (word_then "refused" _ c.before.before.before.before.before.before.before.before.before.next_word.ensures c.before.before.two-numbers.ensures)
 
 same-length-2 : tie.Need-same-length-2
 same-length-2 c = search rules
 
 returns-2 : tie.Need-returns-2
 unfolding letters
-returns-2 c = rw c.before.before.before.before.before.w2.given.1 (word-then "refused" _ c.before.before.before.before.before.before.before.before.before.next_word.ensures c.before.before.two-numbers2.ensures)
+returns-2 c = rw c.before.before.before.before.before.w2.given.1 (word_then "refused" _ c.before.before.before.before.before.before.before.before.before.next_word.ensures c.before.before.two-numbers2.ensures)
 
 same-length-3 : tie.Need-same-length-3
 same-length-3 c = search rules
 
 returns-3 : tie.Need-returns-3
 unfolding letters
-returns-3 c = rw c.before.before.before.before.before.w3.given.1 (word-then "refused" _ c.before.before.before.before.before.before.before.before.before.next_word.ensures c.before.before.two-numbers3.ensures)
+returns-3 c = rw c.before.before.before.before.before.w3.given.1 (word_then "refused" _ c.before.before.before.before.before.before.before.before.before.next_word.ensures c.before.before.two-numbers3.ensures)
 
 pub refused_spec : {M : Type 1} → statement M
 refused_spec =

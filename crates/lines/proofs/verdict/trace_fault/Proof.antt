@@ -1,6 +1,6 @@
 use borrow.Author.Rules.{rules}
 use Rattle.lines.specs.Text.{letters}
-use Rattle.lines.proofs.Led.{word-then}
+use Rattle.lines.proofs.Led.{word_then}
 use Rattle.lines.proofs.verdict.trace_fault.Statement.{statement}
 use Rattle.lines.proofs.verdict.trace_fault.Tie as tie
 
@@ -18,7 +18,7 @@ same_length c = search rules
 
 returns : tie.Need-returns
 unfolding letters
-returns c = word-then "trace-fault" _ c.before.before.before.before.before.before.next_word.ensures c.before.before.traced.ensures
+returns c = word_then "trace-fault" _ c.before.before.before.before.before.before.next_word.ensures c.before.before.traced.ensures
 
 pub trace_fault_spec : {M : Type 1} → statement M
 trace_fault_spec =

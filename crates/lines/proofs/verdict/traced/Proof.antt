@@ -1,6 +1,6 @@
 use borrow.Author.Rules.{rules}
 use mathlib.Core.List.{[], ◌∷◌}
-use Rattle.lines.proofs.Led.{fields-then}
+use Rattle.lines.proofs.Led.{fields_then}
 use Rattle.lines.proofs.verdict.traced.Statement.{statement}
 use Rattle.lines.proofs.verdict.traced.Tie as tie
 
@@ -14,7 +14,7 @@ same_length : tie.Need-same-length
 same_length c = search rules
 
 returns : tie.Need-returns
-returns c = fields-then (_ ∷ []) _ c.before.before.before.before.before.before.next-number.ensures c.before.before.events.ensures
+returns c = fields_then (_ ∷ []) _ c.before.before.before.before.before.before.next-number.ensures c.before.before.events.ensures
 
 pub traced_spec : {M : Type 1} → statement M
 traced_spec = tie.close (tie.spec next-number-requires events-requires same_length returns)

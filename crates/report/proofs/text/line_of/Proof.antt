@@ -1,5 +1,5 @@
 use borrow.Author.Rules.{rules}
-use Rattle.report.proofs.Putting.{never_no_room, line-put}
+use Rattle.report.proofs.Putting.{never_no_room, line_put}
 use Rattle.report.proofs.text.line_of.Statement.{statement}
 use Rattle.report.proofs.text.line_of.Tie as tie
 
@@ -39,7 +39,7 @@ same-length-2 c = search rules
 
 returns-2 : tie.Need-returns-2
 returns-2 c =
-    line-put _ _ _ _ _ _ _ _ c.before.before.before.before.before.before.before.before.before.before.before.check.ensures c.before.before.before.before.before.before.before.before.before.before.before.before.before.before.before.before.before.before.requires _ _ _ c.before.before.before.before.before.line.ensures.0 c.before.before.before.before.before.line.ensures.1 c.before.made.given.1
+    line_put _ _ _ _ _ _ _ _ c.before.before.before.before.before.before.before.before.before.before.before.check.ensures c.before.before.before.before.before.before.before.before.before.before.before.before.before.before.before.before.before.before.requires _ _ _ c.before.before.before.before.before.line.ensures.0 c.before.before.before.before.before.line.ensures.1 c.before.made.given.1
 
 pub line_of_spec : {M : Type 1} → statement M
 line_of_spec =

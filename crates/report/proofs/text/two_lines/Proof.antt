@@ -1,7 +1,7 @@
 use borrow.Author.Rules.{rules}
 use native.Mathlib.Omega.{arith}
 use mathlib.Core.Path.{refl}
-use Rattle.report.proofs.Putting.{line_small, rest_room, lines-put}
+use Rattle.report.proofs.Putting.{line_small, rest_room, lines_put}
 use Rattle.report.proofs.text.two_lines.Statement.{statement}
 use Rattle.report.proofs.text.two_lines.Tie as tie
 
@@ -27,7 +27,7 @@ same_length : tie.Need-same-length
 same_length c = search rules
 
 returns : tie.Need-returns
-returns c = lines-put _ _ _ _ _ _ _ _ c.before.before.before.before.before.before.Line-of.ensures c.before.before.line-of2.ensures refl
+returns c = lines_put _ _ _ _ _ _ _ _ c.before.before.before.before.before.before.Line-of.ensures c.before.before.line-of2.ensures refl
 
 pub two_lines_spec : {M : Type 1} → statement M
 two_lines_spec =

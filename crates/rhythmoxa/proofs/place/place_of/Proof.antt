@@ -1,7 +1,7 @@
 use mathlib.Core.Path.{refl}
 use native.Mathlib.Omega.{arith}
 use Rattle.tables.proofs.Parts.{tail_lent}
-use Rattle.rhythmoxa.proofs.Standing.{part_good, placed_none, placed-some}
+use Rattle.rhythmoxa.proofs.Standing.{part_good, placed_none, placed_some}
 use borrow.Author.Rules.{rules}
 use Rattle.rhythmoxa.proofs.place.place_of.Statement.{statement}
 use Rattle.rhythmoxa.proofs.place.place_of.Tie as tie
@@ -47,7 +47,7 @@ returns-2 : tie.Need-returns-2
 returns-2 c =
     let b = c.before.before.before.before in
     let t = b.before.before.before.args.t.now in
-    placed-some t _ _ b.before.Moves-of.ensures b.if1.false c.seek.result _
+    placed_some t _ _ b.before.Moves-of.ensures b.if1.false c.seek.result _
     (rw (tail_lent 12 t, c.before.before.get.ensures.0, c.before.wide16.ensures.0) at c.seek.ensures) refl refl
 
 pub place_of_spec : {M : Type 1} → statement M

@@ -8,7 +8,7 @@ use Rattle.tables.specs.Valid.{refusal}
 use Rattle.tables.specs.declared.answer.Test.TheVariants.{Clear}
 use Rattle.tables.proofs.Parts.{tail_lent}
 use Rattle.tables.proofs.Tested.{good}
-use Rattle.tables.proofs.Reading.{call_refused, call-short, call_done}
+use Rattle.tables.proofs.Reading.{call_refused, call_short, call_done}
 use Rattle.tables.proofs.read.read.Goals as goal
 
 pub returns-in-Refuses : goal.returns-in-Refuses
@@ -21,7 +21,7 @@ pub get-m-requires : goal.get-m-requires
 get-m-requires c = omega (arith, (good _ (sym c.test-found.ensures ∙ c.in_default.is)).long)
 
 pub returns-then-list-m : goal.returns-then-list-m
-returns-then-list-m c = call-short _ _
+returns-then-list-m c = call_short _ _
     (λ i. omega (arith, c.type_inv.t i))
     (sym c.test-found.ensures ∙ c.in_default.is)
     (omega (arith, c.get-m.ensures.0))

@@ -1,5 +1,5 @@
 use borrow.Author.Rules.{rules}
-use Rattle.watchdog.proofs.Answering.{tested-refused, tested_clear, answers_over, answers_put, form_upto, form_spare}
+use Rattle.watchdog.proofs.Answering.{tested_refused, tested_clear, answers_over, answers_put, form_upto, form_spare}
 use Rattle.watchdog.proofs.ask.made.Statement.{statement}
 use Rattle.watchdog.proofs.ask.made.Tie as tie
 
@@ -10,7 +10,7 @@ enum-known-found : tie.Need-enum-known-found
 enum-known-found c = search rules
 
 returns : tie.Need-returns
-returns c = tested-refused _ _ _ c.before.found.given.0.0 c.before.before.before.tested.ensures (cc)
+returns c = tested_refused _ _ _ c.before.found.given.0.0 c.before.before.before.tested.ensures (cc)
 
 enum_told : tie.Need-enum-told
 enum_told c = search rules

@@ -11,7 +11,7 @@ use Rattle.watchdog.specs.Asking.{no_room}
 use Rattle.tables.specs.Putting.{move_bytes}
 use Rattle.watchdog.specs.Rows.{watch_moves, watch_table}
 use Rattle.tables.proofs.Putting.{table_put}
-use Rattle.watchdog.proofs.Splicing.{rows_few, watch_count, watch_length, puts-put}
+use Rattle.watchdog.proofs.Splicing.{rows_few, watch_count, watch_length, puts_put}
 use Rattle.watchdog.proofs.put.put_watchdog.Statement.{statement}
 use Rattle.watchdog.proofs.put.put_watchdog.Tie as tie
 
@@ -67,7 +67,7 @@ returns-2 : tie.Need-returns-2
 returns-2 c = let a = c.before.before.before.before.before.before.before.before.before.before.before.before.args in
     let f = a.t1 in
     let o = c.before.before.before.before.before.before.before.before.put-header.new.1.1.1.1.0 in
-    puts-put (encoded (watch_table f)) a.out.now _ _ (sym (watch_length f)) (omega arith)
+    puts_put (encoded (watch_table f)) a.out.now _ _ (sym (watch_length f)) (omega arith)
     (tail_back 12 o c.before.before.put-moves.new.0
     ∙ ap
     (λ (x : List ℕ). take 12 o ++ x)
