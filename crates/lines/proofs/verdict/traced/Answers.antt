@@ -1,0 +1,6 @@
+use mathlib.Core.List.{[], ◌∷◌}
+use Rattle.lines.proofs.Led.{fields_then}
+use Rattle.lines.proofs.verdict.traced.Goals as goal
+
+pub returns : goal.returns
+returns c = fields_then (_ ∷ []) _ c.next_number-p.ensures c.events.ensures

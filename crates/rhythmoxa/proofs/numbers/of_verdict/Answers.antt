@@ -1,0 +1,15 @@
+use mathlib.Core.Path.{ap, sym, ◌∙◌}
+use Rattle.rhythmoxa.specs.Layout.{verdict_numbers}
+use Rattle.rhythmoxa.proofs.numbers.of_verdict.Goals as goal
+
+pub returns-in-Passes : goal.returns-in-Passes
+returns-in-Passes c = c.values.ensures ∙ sym (ap verdict_numbers c.in-Passes.is)
+
+pub returns-in-TraceFault : goal.returns-in-TraceFault
+returns-in-TraceFault c = c.values-in-TraceFault.ensures ∙ sym (ap verdict_numbers c.in-TraceFault.is)
+
+pub returns-in-RefusalFault : goal.returns-in-RefusalFault
+returns-in-RefusalFault c = c.values-in-RefusalFault.ensures ∙ sym (ap verdict_numbers c.in-RefusalFault.is)
+
+pub returns-in-Refused : goal.returns-in-Refused
+returns-in-Refused c = c.of_refusal.ensures ∙ sym (ap verdict_numbers c.in-Refused.is)
