@@ -1,7 +1,6 @@
 -- A whole row of bytes, counted or put from the front of the buffer.
 use Prim.Native.Nat.{ℕ, ◌+◌, ◌≤◌, ◌<◌}
 use mathlib.Core.Path.{◌≡◌, refl, ap, ◌∙◌}
-use mathlib.Core.Logic.{⊎_elim}
 use mathlib.Core.List.{List, [], ◌∷◌, ◌++◌}
 use native.Mathlib.Omega.{arith}
 use native.Mathlib.Decide.{dec_lt}
@@ -10,12 +9,9 @@ use native.Mathlib.Numerals.{add-one}
 use lib.ListN.{length, length-set, drop}
 use lib.Seq.{sets, sets-eq}
 use borrow.Author.Tests.{lt-ltb, le-ltb}
-use types.Run.{OneOf}
-use denote.Enum.Declared.{tag_of}
 use Rattle.tables.specs.Numbers.{over}
 use Rattle.lines.specs.Pen.{Drawn, drawn, draw, Draws}
 use Rattle.lines.specs.declared.pen.Pen.{Pen}
-use Rattle.lines.specs.contracts.pen.Pen.{the_type}
 use Rattle.lines.specs.declared.pen.Pen.TheVariants.{Counts, Puts, Over}
 use Rattle.lines.proofs.Drawing.{draw-over}
 
@@ -57,15 +53,14 @@ counted {b} {n} {q} {o} {m} e f = go (dec_lt (length o) (length b))
 
 -- no count: the row is longer than the buffer
 pub not_counted :
-    {b : List ℕ} (q : Pen) {o m : List ℕ} → OneOf (1 ∷ 2 ∷ []) (tag_of the_type q) → Draws b (Counts 0) o q m → (length o < length b) × (m ≡ o)
+    {b : List ℕ} (q : Pen) {o m : List ℕ} → ((n : ℕ) → q ≡ Counts n → ⊥) → Draws b (Counts 0) o q m → (length o < length b) × (m ≡ o)
 not_counted {b} q {o} {m} t f = go (dec_lt (length o) (length b))
   where
     go : Dec (length o < length b) → (length o < length b) × (m ≡ o)
     go (yes h) = (h, ap (λ (d : Drawn). d.out) (f.is ∙ draw_counts_over b 0 o (omega arith) (omega arith)))
     go (no h) =
         let g : q ≡ Counts (0 + length b) = ap (λ (d : Drawn). d.pen) (f.is ∙ draw_counts b 0 o (omega arith)) in
-        let k : OneOf (1 ∷ 2 ∷ []) 0 = rw g at t in
-        absurd (⊎_elim (λ e. omega arith) (λ e. omega arith) k)
+        absurd (t _ g)
 
 -- a row that fits is put in front of the old bytes
 pub put : {b : List ℕ} {q : Pen} {o n m : List ℕ} → n ≡ o → length b ≤ length o → Draws b (Puts 0) n q m → m ≡ over b o

@@ -12,18 +12,21 @@ pub returns-then-trace-length_of : goal.returns-then-trace-length_of
 returns-then-trace-length_of c = let a = c.args in
     let h : length a.trace.now < length_of a.verdict = rw c.length_of.ensures at c.if-trace-length_of.true in
     let w = trace_short a.verdict a.trace.now a.mode a.out.now h in
-    (ap (λ (x : Made). x.answer) (sym w), ap (λ (x : Made). x.out) (sym w))
+    record { answer = ap (λ (x : Made). x.answer) (sym w); buffer = ap (λ (x : Made). x.out) (sym w) }
 
 pub returns-in_default : goal.returns-in_default
 returns-in_default c = let a = c.args in
     let h : length_of a.verdict ≤ length a.trace.now = rw c.length_of.ensures at c.if-trace-length_of.false in
-    let k = not_counted c.draw-counted.result c.in_default.keys2 c.draw-counted.ensures in
+    let k = not_counted c.draw-counted.result c.in_default.not-Counts c.draw-counted.ensures in
     let w = buffer_short a.verdict a.trace.now a.mode a.out.now h k.0 in
-    (ap (λ (x : Made). x.answer) (sym w), k.1 ∙ ap (λ (x : Made). x.out) (sym w))
+    record { answer = ap (λ (x : Made). x.answer) (sym w); buffer = k.1 ∙ ap (λ (x : Made). x.out) (sym w) }
 
 pub returns : goal.returns
 returns c = let a = c.args in
     let h : length_of a.verdict ≤ length a.trace.now = rw c.length_of.ensures at c.if-trace-length_of.false in
     let k = counted c.in-Counts.is c.draw-counted.ensures in
     let w = line_written a.verdict a.trace.now a.mode a.out.now h k.1 in
-    (ap Wrote k.0 ∙ ap (λ (x : Made). x.answer) (sym w), put k.2 k.1 c.draw.ensures ∙ ap (λ (x : Made). x.out) (sym w))
+    record {
+      answer = ap Wrote k.0 ∙ ap (λ (x : Made). x.answer) (sym w);
+      buffer = put k.2 k.1 c.draw.ensures ∙ ap (λ (x : Made). x.out) (sym w);
+    }
