@@ -1,20 +1,22 @@
 // A table's file.
 ghost use Rattle.std.specs.Prelude.{◌-◌, ◌≤◌, length};
 
+use std::fs;
+use std::io::Read;
+use std::rt::Files;
+
 // One byte more than the longest table has (12 + 6 × 4,096): a file that fills this much is over 24,588 bytes.
 pub const ROOM: usize = 24589;
 
 // Reads a file to its end and answers how many bytes it has; 0 where a read fails, or where the file fills the buffer.
-fn read_whole(fd: i32, buf: &mut [u8]) -> usize
+fn read_whole<F: Read>(file: &mut F, buf: &mut [u8]) -> usize
     ensures { result ≤ length buf.old - 1 }
 {
     let mut n = 0;
     while n < buf.len() {
-        let got = libc::read(fd, &mut buf[n..]);
-        if got < 0 {
+        let Ok(more) = file.read(&mut buf[n..]) else {
             return 0;
-        }
-        let more = io::count(got, &buf[n..]);
+        };
         if more == 0 {
             return n;
         }
@@ -24,14 +26,11 @@ fn read_whole(fd: i32, buf: &mut [u8]) -> usize
 }
 
 // Reads the table in a file; a file that can't be read, or fills the buffer, counts as an empty table.
-pub fn load(path: &[u8], buf: &mut [u8]) -> usize
+pub fn load<R: Files>(rt: &R, path: &str, buf: &mut [u8]) -> usize
     ensures { result ≤ length buf.old - 1 }
 {
-    let fd = os::open_read(path);
-    if fd < 0 {
+    let Ok(mut file) = fs::open(rt, path) else {
         return 0;
-    }
-    let n = read_whole(fd, buf);
-    libc::close(fd);
-    n
+    };
+    read_whole(&mut file, buf)
 }

@@ -1,15 +1,17 @@
 // Reads rule.tbl and flow.tbl in the folder where it runs, and writes the report's two lines.
-use libc::STDOUT_FILENO;
+#![tactic(auto)]
+
+use std::io;
 
 mod load;
 mod text;
 
-fn main() {
+fn main(rt: HostRuntime) -> io::Result<()> {
     let mut rule = [0u8; load::ROOM];
     let mut flow = [0u8; load::ROOM];
     let mut out = [0u8; text::ROOM];
-    let n = load::load(b"rule.tbl", &mut rule);
-    let m = load::load(b"flow.tbl", &mut flow);
+    let n = load::load(&rt, "rule.tbl", &mut rule);
+    let m = load::load(&rt, "flow.tbl", &mut flow);
     let k = text::two_lines(&rule[0..n], &flow[0..m], &mut out);
-    io::write_all(STDOUT_FILENO, &out[0..k]);
+    rt.write_all(&out[0..k])
 }
