@@ -4,7 +4,7 @@ use mathlib.Core.Bool.{Bool}
 use mathlib.Core.List.{List}
 use Prim.Native.Nat.{ℕ}
 use native.Mathlib.Omega.{arith}
-use lib.ListN.{length, take}
+use lib.ListN.{take}
 use Rattle.csp.specs.Pass as pass
 use Rattle.csp.specs.Fault.{TraceFault, of_trace, of_refusal}
 use Rattle.csp.specs.Table.{Table, lts}

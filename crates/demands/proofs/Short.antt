@@ -14,7 +14,6 @@ use Rattle.refine.specs.Checking.{Nodes, Answers, turned_away, many_nodes, many_
 use Rattle.refine.specs.Verdicts.{Answer, refused}
 use Rattle.refine.proofs.Tested.{turned_each}
 use Rattle.refine.proofs.Complete.{trace_within}
-use Rattle.refine.specs.declared.verdict.Verdict.{Verdict}
 use Rattle.refine.specs.declared.verdict.Verdict.TheVariants as verdict
 use Rattle.demands.specs.Promises.{ShortTrace, NeverShort}
 use Rattle.demands.proofs.Checking.{ToldRight, checked_right, let_in_good}

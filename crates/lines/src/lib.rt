@@ -1,4 +1,6 @@
 // The report's lines: a verdict, its trace and the mode as one line of bytes.
+#![tactic(auto)]
+
 ghost use Rattle.std.specs.Prelude.{◌≡◌, ◌≤◌, length};
 ghost use Rattle.refine.specs.Verdicts.{length_of, answer_of};
 ghost use Rattle.lines.specs.Fields.{bytes_of};

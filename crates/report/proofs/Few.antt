@@ -14,8 +14,8 @@ use Rattle.csp.proofs.Tables.{stays_below}
 use Rattle.csp.proofs.Judging.{run_word}
 use Rattle.csp.proofs.Total.{right_short}
 use Rattle.csp.proofs.Unique.{form_unique}
-use Rattle.tables.specs.Bytes.{states, events, count, table_of}
-use Rattle.tables.specs.Answers.{rule, flow, call}
+use Rattle.tables.specs.Bytes.{states, table_of}
+use Rattle.tables.specs.Answers.{rule, call}
 use Rattle.tables.proofs.Proper.{fits}
 use Rattle.tables.proofs.Tested.{good}
 use Rattle.refine.specs.Checking.{Answers, turned_away, many_nodes, many_pairs, short_trace, told}

@@ -1,5 +1,7 @@
 // The library's calls for C: each takes what the call takes, and leaves its answer as eight numbers in a lent array
 // (include/rhythmoxa.h says it for those who call; specs/Layout.antt defines the numbers).
+#![tactic(auto)]
+
 ghost use Rattle.rhythmoxa.specs.Calls.{ReadTold, WriteTold, PartTold, CheckTold, ShortTold, JoinTold, WatchdogTold};
 
 use joins::join;

@@ -1,4 +1,6 @@
 // The two workspaces: when one is short, and clearing both.
+#![tactic(auto)]
+
 ghost use Rattle.std.specs.Prelude.{◌≡◌};
 ghost use Rattle.workspace.specs.Workspace.{short, cleared};
 

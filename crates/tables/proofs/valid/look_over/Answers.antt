@@ -1,6 +1,5 @@
 use mathlib.Core.Path.{◌≡◌}
 use native.Mathlib.Omega.{arith}
-use Rattle.tables.specs.Moves.{move_at}
 use Rattle.tables.proofs.Looking.{looks_none, looks_next}
 use Rattle.tables.proofs.valid.look_over.Goals as goal
 
