@@ -10,8 +10,8 @@ fn is_number(field: &[u8], most: u64) -> bool {
         return false;
     }
     let mut text = [0u8; 20];
-    let k = io::decimal(n, &mut text);
-    check::same(field, &text[..k])
+    let k = digits::decimal(n, &mut text);
+    field == &text[..k]
 }
 
 // At least one digit and at most `most`.
@@ -32,7 +32,7 @@ fn are_digits(field: &[u8], most: usize) -> bool {
 // Bytes, two digits each, with at most `most` digits.
 fn is_bytes(field: &[u8], most: usize) -> bool {
     if field.len() % 2 != 0 {
-        return check::same(field, b"-");
+        return field == b"-".as_slice();
     }
     are_digits(field, most)
 }
@@ -40,7 +40,7 @@ fn is_bytes(field: &[u8], most: usize) -> bool {
 // A list of at most 12,300 numbers, four digits each.
 fn is_list(field: &[u8]) -> bool {
     if field.len() % 4 != 0 {
-        return check::same(field, b"-");
+        return field == b"-".as_slice();
     }
     are_digits(field, 49200)
 }
@@ -80,7 +80,7 @@ fn follows(line: &[u8], kinds: &[u8]) -> bool {
 
 // Whether a line is a call with this word and fields of these kinds.
 pub fn is_call(line: &[u8], word: &[u8], kinds: &[u8]) -> bool {
-    if !check::same(line::field(line, 0), word) {
+    if line::field(line, 0) != word {
         return false;
     }
     follows(line, kinds)

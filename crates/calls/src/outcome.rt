@@ -62,7 +62,7 @@ fn stands(field: &[u8], from: usize, to: usize, out: &[u8]) -> bool {
     if to > out.len() {
         return false;
     }
-    check::same(field, &out[from..to])
+    field == &out[from..to]
 }
 
 // Whether the buffer is as the call's field had it: a buffer has one spelling, so its text is then the field's.

@@ -24,7 +24,7 @@ pub fn word(text: &[u8], at: usize, out: &mut [u8]) -> usize {
 pub fn number(n: u64, at: usize, out: &mut [u8]) -> usize {
     let p = byte(b' ', at, out);
     let mut text = [0u8; 20];
-    let k = io::decimal(n, &mut text);
+    let k = digits::decimal(n, &mut text);
     word(&text[..k], p, out)
 }
 
