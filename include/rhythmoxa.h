@@ -1,6 +1,6 @@
 /* Rhythmoxa for C and C++: tables of states and moves are read, written, checked, joined and turned into watchdogs.
  *
- * Link librhythmoxa.a (made by `rt staticlib rhythmoxa`, for x86-64 Linux); besides it, only memcpy and memset of the C library
+ * Link librhythmoxa.a (made by `tools/archive`, for x86-64 Linux); besides it, only memcpy and memset of the C library
  * are needed. The functions keep nothing between calls, use no heap, and may run at once on several threads with buffers of
  * their own.
  *

@@ -1,6 +1,6 @@
 //! Rhythmoxa for Rust 1.82 or newer: a thin, safe form of the calls in include/rhythmoxa.h. One file, no crates.
 //!
-//! Take it in by `mod rhythmoxa;`, and link the archive that `rt staticlib rhythmoxa` makes (x86-64 Linux):
+//! Take it in by `mod rhythmoxa;`, and link the archive that `tools/archive` makes (x86-64 Linux):
 //! `rustc main.rs -L target/staticlib`.
 //!
 //! What the calls promise is proved of the archive (crates/rhythmoxa/specs/Calls.antt). That the archive is called as its proofs
