@@ -2,6 +2,7 @@
 ghost use Rattle.std.specs.Prelude.{◌≤◌};
 
 use crate::show;
+use std::io;
 
 // What every place holds before a call.
 pub const JUNK: u8 = 167;
@@ -67,37 +68,42 @@ fn first_64(buffer: &[u64], from: usize, held: u64) -> usize {
     i
 }
 
-fn told(from: usize, first: usize, length: usize) {
+fn told(rt: &impl Print, from: usize, first: usize, length: usize) -> io::Result<()> {
     if first < length {
-        show::word(b"; changed at");
-        show::number(first as u64);
-        return;
+        show::word(rt, b"; changed at")?;
+        show::number(rt, first as u64)?;
+        return Ok(());
     }
-    show::word(b"; kept from");
-    show::number(from as u64);
+    show::word(rt, b"; kept from")?;
+    show::number(rt, from as u64)?;
+    Ok(())
 }
 
 // That nothing changed in a buffer past the first n places, or where.
-pub fn kept(buffer: &[u8], n: usize) {
-    told(n, first_8(buffer, n, JUNK), buffer.len());
+pub fn kept(rt: &impl Print, buffer: &[u8], n: usize) -> io::Result<()> {
+    told(rt, n, first_8(buffer, n, JUNK), buffer.len())?;
+    Ok(())
 }
 
 // That nothing changed in a list past the first n places, or where.
-pub fn kept_16(list: &[u16], n: usize) {
-    told(n, first_16(list, n, JUNK_16), list.len());
+pub fn kept_16(rt: &impl Print, list: &[u16], n: usize) -> io::Result<()> {
+    told(rt, n, first_16(list, n, JUNK_16), list.len())?;
+    Ok(())
 }
 
-fn place(first: usize, length: usize) {
+fn place(rt: &impl Print, first: usize, length: usize) -> io::Result<()> {
     if first < length {
-        show::number(first as u64);
-        return;
+        show::number(rt, first as u64)?;
+        return Ok(());
     }
-    show::word(b" zero");
+    show::word(rt, b" zero")?;
+    Ok(())
 }
 
 // That both workspaces are zero, or where they are not.
-pub fn cleared(work_16: &[u16], work_64: &[u64]) {
-    show::word(b"; workspaces");
-    place(first_16(work_16, 0, 0), work_16.len());
-    place(first_64(work_64, 0, 0), work_64.len());
+pub fn cleared(rt: &impl Print, work_16: &[u16], work_64: &[u64]) -> io::Result<()> {
+    show::word(rt, b"; workspaces")?;
+    place(rt, first_16(work_16, 0, 0), work_16.len())?;
+    place(rt, first_64(work_64, 0, 0), work_64.len())?;
+    Ok(())
 }

@@ -1,5 +1,9 @@
 // Runs the order's cases and limits through the public calls, and prints a line for each call: what was asked, the answer,
 // and what the call left in the buffers and workspaces that it was lent.
+#![tactic(auto)]
+
+use std::io;
+
 mod apart;
 mod ask;
 mod lent;
@@ -16,101 +20,113 @@ mod undoing;
 mod watching;
 mod wrong;
 
-fn marked_checks() {
-    marked::case_1();
-    marked::case_2();
-    marked::case_3();
-    marked::case_4();
-    marked::case_5();
-    marked::case_6();
-    marked::case_7();
-    marked::case_8();
-    marked::case_9();
+fn marked_checks(rt: &impl Print) -> io::Result<()> {
+    marked::case_1(rt)?;
+    marked::case_2(rt)?;
+    marked::case_3(rt)?;
+    marked::case_4(rt)?;
+    marked::case_5(rt)?;
+    marked::case_6(rt)?;
+    marked::case_7(rt)?;
+    marked::case_8(rt)?;
+    marked::case_9(rt)?;
+    Ok(())
 }
 
-fn marked_builders() {
-    marked::case_10();
-    marked::case_11();
-    marked::case_12();
+fn marked_builders(rt: &impl Print) -> io::Result<()> {
+    marked::case_10(rt)?;
+    marked::case_11(rt)?;
+    marked::case_12(rt)?;
+    Ok(())
 }
 
-fn limits_of_a_table() {
-    numbers::headers();
-    numbers::moves();
-    numbers::lists();
-    numbers::tables();
-    numbers::long_table();
-    numbers::states();
+fn limits_of_a_table(rt: &impl Print) -> io::Result<()> {
+    numbers::headers(rt)?;
+    numbers::moves(rt)?;
+    numbers::lists(rt)?;
+    numbers::tables(rt)?;
+    numbers::long_table(rt)?;
+    numbers::states(rt)?;
+    Ok(())
 }
 
-fn limits_of_a_check() {
-    limits::pairs();
-    limits::trace_of_5();
-    limits::longest_trace();
-    limits::rule_states();
-    limits::rule_nodes();
-    limits::workspace_lengths();
+fn limits_of_a_check(rt: &impl Print) -> io::Result<()> {
+    limits::pairs(rt)?;
+    limits::trace_of_5(rt)?;
+    limits::longest_trace(rt)?;
+    limits::rule_states(rt)?;
+    limits::rule_nodes(rt)?;
+    limits::workspace_lengths(rt)?;
+    Ok(())
 }
 
-fn limits_of_a_builder() {
-    limits::states_of_a_join();
-    limits::moves_of_a_join();
-    limits::joining_sets();
-    limits::events_of_a_watchdog();
-    limits::result_buffers();
+fn limits_of_a_builder(rt: &impl Print) -> io::Result<()> {
+    limits::states_of_a_join(rt)?;
+    limits::moves_of_a_join(rt)?;
+    limits::joining_sets(rt)?;
+    limits::events_of_a_watchdog(rt)?;
+    limits::result_buffers(rt)?;
+    Ok(())
 }
 
-fn all_refusals() {
-    refusals::of_tables();
-    refusals::framed();
-    refusals::modes();
-    refusals::events();
+fn all_refusals(rt: &impl Print) -> io::Result<()> {
+    refusals::of_tables(rt)?;
+    refusals::framed(rt)?;
+    refusals::modes(rt)?;
+    refusals::events(rt)?;
+    Ok(())
 }
 
-fn all_orders() {
-    orders::of_a_table();
-    orders::of_a_check();
-    orders::of_a_check_later();
-    orders::of_a_join();
-    orders::of_a_join_later();
-    orders::of_a_watchdog();
-    orders::of_a_watchdog_later();
+fn all_orders(rt: &impl Print) -> io::Result<()> {
+    orders::of_a_table(rt)?;
+    orders::of_a_check(rt)?;
+    orders::of_a_check_later(rt)?;
+    orders::of_a_join(rt)?;
+    orders::of_a_join_later(rt)?;
+    orders::of_a_watchdog(rt)?;
+    orders::of_a_watchdog_later(rt)?;
+    Ok(())
 }
 
-fn there_and_back() {
-    undoing::rules();
-    undoing::flows();
-    undoing::results();
+fn there_and_back(rt: &impl Print) -> io::Result<()> {
+    undoing::rules(rt)?;
+    undoing::flows(rt)?;
+    undoing::results(rt)?;
+    Ok(())
 }
 
-fn reasonable_errors() {
-    wrong::silent_moves();
-    wrong::one_flow_state();
-    wrong::states_in_a_group();
+fn reasonable_errors(rt: &impl Print) -> io::Result<()> {
+    wrong::silent_moves(rt)?;
+    wrong::one_flow_state(rt)?;
+    wrong::states_in_a_group(rt)?;
+    Ok(())
 }
 
-fn together_and_apart() {
-    watching::beside_r();
-    watching::breaking_r();
-    watching::beside_others();
-    apart::together();
+fn together_and_apart(rt: &impl Print) -> io::Result<()> {
+    watching::beside_r(rt)?;
+    watching::breaking_r(rt)?;
+    watching::beside_others(rt)?;
+    apart::together(rt)?;
+    Ok(())
 }
 
-fn lines_of_the_report() {
-    report::case_3();
-    report::offers();
+fn lines_of_the_report(rt: &impl Print) -> io::Result<()> {
+    report::case_3(rt)?;
+    report::offers(rt)?;
+    Ok(())
 }
 
-fn main() {
-    marked_checks();
-    marked_builders();
-    limits_of_a_table();
-    limits_of_a_check();
-    limits_of_a_builder();
-    all_refusals();
-    all_orders();
-    there_and_back();
-    reasonable_errors();
-    together_and_apart();
-    lines_of_the_report();
+fn main(rt: HostRuntime) -> io::Result<()> {
+    marked_checks(&rt)?;
+    marked_builders(&rt)?;
+    limits_of_a_table(&rt)?;
+    limits_of_a_check(&rt)?;
+    limits_of_a_builder(&rt)?;
+    all_refusals(&rt)?;
+    all_orders(&rt)?;
+    there_and_back(&rt)?;
+    reasonable_errors(&rt)?;
+    together_and_apart(&rt)?;
+    lines_of_the_report(&rt)?;
+    Ok(())
 }

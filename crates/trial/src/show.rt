@@ -1,29 +1,30 @@
 // Words and numbers on standard output.
-use libc::STDOUT_FILENO;
+use std::io;
 
-pub fn word(text: &[u8]) {
-    io::write_all(STDOUT_FILENO, text);
+pub fn word(rt: &impl Print, text: &[u8]) -> io::Result<()> {
+    rt.write_all(text)
 }
 
 // A number after a space.
-pub fn number(n: u64) {
-    word(b" ");
-    io::print_decimal(STDOUT_FILENO, n);
+pub fn number(rt: &impl Print, n: u64) -> io::Result<()> {
+    print!(rt; " {n}")
 }
 
 // A word and three numbers.
-pub fn three(text: &[u8], a: u16, b: u16, c: u16) {
-    word(text);
-    number(a as u64);
-    number(b as u64);
-    number(c as u64);
+pub fn three(rt: &impl Print, text: &[u8], a: u16, b: u16, c: u16) -> io::Result<()> {
+    word(rt, text)?;
+    number(rt, a as u64)?;
+    number(rt, b as u64)?;
+    number(rt, c as u64)?;
+    Ok(())
 }
 
 // The first n bytes of a text.
-pub fn front(text: &[u8], n: usize) {
+pub fn front(rt: &impl Print, text: &[u8], n: usize) -> io::Result<()> {
     if n <= text.len() {
-        word(&text[0..n]);
+        word(rt, &text[0..n])?;
     }
+    Ok(())
 }
 
 fn pair(low: u8, high: u8) -> u64 {
@@ -31,46 +32,50 @@ fn pair(low: u8, high: u8) -> u64 {
 }
 
 // Bytes as numbers of two bytes, low byte first.
-fn pairs(bytes: &[u8]) {
+fn pairs(rt: &impl Print, bytes: &[u8]) -> io::Result<()> {
     let mut i = 0;
     while i < bytes.len() / 2 {
-        number(pair(bytes[2 * i], bytes[2 * i + 1]));
+        number(rt, pair(bytes[2 * i], bytes[2 * i + 1]))?;
         i += 1;
     }
+    Ok(())
 }
 
 fn wide(n: u16) -> u64 {
     n as u64
 }
 
-fn numbers(list: &[u16]) {
+fn numbers(rt: &impl Print, list: &[u16]) -> io::Result<()> {
     let mut i = 0;
     while i < list.len() {
-        number(wide(list[i]));
+        number(rt, wide(list[i]))?;
         i += 1;
     }
+    Ok(())
 }
 
 // The numbers of a list: all of them, or of a long one its first and its last move.
-pub fn moves(list: &[u16]) {
+pub fn moves(rt: &impl Print, list: &[u16]) -> io::Result<()> {
     let n = list.len();
     if n <= 60 {
-        numbers(list);
-        return;
+        numbers(rt, list)?;
+        return Ok(());
     }
-    numbers(&list[0..3]);
-    word(b" ..");
-    numbers(&list[n - 3..n]);
+    numbers(rt, &list[0..3])?;
+    word(rt, b" ..")?;
+    numbers(rt, &list[n - 3..n])?;
+    Ok(())
 }
 
 // The numbers of a table: all of them, or of a long one its header and its last move.
-pub fn table(bytes: &[u8]) {
+pub fn table(rt: &impl Print, bytes: &[u8]) -> io::Result<()> {
     let n = bytes.len();
     if n <= 120 {
-        pairs(bytes);
-        return;
+        pairs(rt, bytes)?;
+        return Ok(());
     }
-    pairs(&bytes[0..12]);
-    word(b" ..");
-    pairs(&bytes[n - 6..n]);
+    pairs(rt, &bytes[0..12])?;
+    word(rt, b" ..")?;
+    pairs(rt, &bytes[n - 6..n])?;
+    Ok(())
 }

@@ -2,69 +2,76 @@
 use crate::{lent, show};
 use lines::answer::Line;
 use refine::verdict::Verdict;
+use std::io;
 use tables::answer::{Built, Read, Refusal};
 
-fn refused(whose: u64, number: u8) {
-    show::word(b" refused");
-    show::number(whose);
-    show::number(number as u64);
+fn refused(rt: &impl Print, whose: u64, number: u8) -> io::Result<()> {
+    show::word(rt, b" refused")?;
+    show::number(rt, whose)?;
+    show::number(rt, number as u64)?;
+    Ok(())
 }
 
 // Whose a refusal is, as the report has it: 0 the call's, 1 the rule's, 2 the flow's; and its number.
-pub fn refusal(w: Refusal) {
+pub fn refusal(rt: &impl Print, w: Refusal) -> io::Result<()> {
     match w {
-        Refusal::Call(k) => refused(0, k),
-        Refusal::Rule(k) => refused(1, k),
-        Refusal::Flow(k) => refused(2, k),
+        Refusal::Call(k) => refused(rt, 0, k),
+        Refusal::Rule(k) => refused(rt, 1, k),
+        Refusal::Flow(k) => refused(rt, 2, k),
     }
 }
 
-fn wrote(n: usize, out: &[u8]) {
-    show::word(b" wrote");
-    show::number(n as u64);
-    show::word(b":");
+fn wrote(rt: &impl Print, n: usize, out: &[u8]) -> io::Result<()> {
+    show::word(rt, b" wrote")?;
+    show::number(rt, n as u64)?;
+    show::word(rt, b":")?;
     if n <= out.len() {
-        show::table(&out[0..n]);
+        show::table(rt, &out[0..n])?;
     }
-    lent::kept(out, n);
+    lent::kept(rt, out, n)?;
+    Ok(())
 }
 
-fn wrote_nothing(w: Refusal, out: &[u8]) {
-    refusal(w);
-    lent::kept(out, 0);
+fn wrote_nothing(rt: &impl Print, w: Refusal, out: &[u8]) -> io::Result<()> {
+    refusal(rt, w)?;
+    lent::kept(rt, out, 0)?;
+    Ok(())
 }
 
 // A builder's answer with the table that it wrote.
-pub fn built(answer: Built, out: &[u8]) {
+pub fn built(rt: &impl Print, answer: Built, out: &[u8]) -> io::Result<()> {
     match answer {
-        Built::Wrote(n) => wrote(n, out),
-        Built::Refused(w) => wrote_nothing(w, out),
+        Built::Wrote(n) => wrote(rt, n, out),
+        Built::Refused(w) => wrote_nothing(rt, w, out),
     }
 }
 
-fn header(n: u16, e: u16, start: u16, m: usize) {
-    show::word(b" read");
-    show::number(n as u64);
-    show::number(e as u64);
-    show::number(start as u64);
-    show::number(m as u64);
-    show::word(b":");
+fn header(rt: &impl Print, n: u16, e: u16, start: u16, m: usize) -> io::Result<()> {
+    show::word(rt, b" read")?;
+    show::number(rt, n as u64)?;
+    show::number(rt, e as u64)?;
+    show::number(rt, start as u64)?;
+    show::number(rt, m as u64)?;
+    show::word(rt, b":")?;
+    Ok(())
 }
 
-fn given(n: usize, list: &[u16]) {
+fn given(rt: &impl Print, n: usize, list: &[u16]) -> io::Result<()> {
     if n <= list.len() {
-        show::moves(&list[0..n]);
+        show::moves(rt, &list[0..n])?;
     }
-    lent::kept_16(list, n);
+    lent::kept_16(rt, list, n)?;
+    Ok(())
 }
 
-fn given_nothing(w: Refusal, list: &[u16]) {
-    refusal(w);
-    lent::kept_16(list, 0);
+fn given_nothing(rt: &impl Print, w: Refusal, list: &[u16]) -> io::Result<()> {
+    refusal(rt, w)?;
+    lent::kept_16(rt, list, 0)?;
+    Ok(())
 }
 
 // The reader's answer with the moves that it gave back.
-pub fn read(answer: Read, list: &[u16]) {
+pub fn read(rt: &impl Print, answer: Read, list: &[u16]) -> io::Result<()> {
     match answer {
         Read::Table {
             states,
@@ -72,34 +79,35 @@ pub fn read(answer: Read, list: &[u16]) {
             start,
             moves,
         } => {
-            header(states, events, start, moves);
-            given(3 * lent::least(moves, list.len()), list);
+            header(rt, states, events, start, moves)?;
+            given(rt, 3 * lent::least(moves, list.len()), list)
         }
-        Read::Refused(w) => given_nothing(w, list),
+        Read::Refused(w) => given_nothing(rt, w, list),
     }
 }
 
 // The line of n bytes without its line feed; of a long one its front and its end.
-pub fn line(text: &[u8], n: usize) {
+pub fn line(rt: &impl Print, text: &[u8], n: usize) -> io::Result<()> {
     if n > text.len() {
-        return;
+        return Ok(());
     }
     if n < 100 {
-        show::front(text, lent::least(n - lent::least(n, 1), n));
-        return;
+        show::front(rt, text, lent::least(n - lent::least(n, 1), n))?;
+        return Ok(());
     }
-    show::front(text, 40);
-    show::word(b" .. ");
-    show::word(&text[n - 10..n - 1]);
+    show::front(rt, text, 40)?;
+    show::word(rt, b" .. ")?;
+    show::word(rt, &text[n - 10..n - 1])?;
+    Ok(())
 }
 
 // A verdict as the report has it, with the trace that stands in the trace buffer.
-pub fn said(v: Verdict, mode: u16, trace: &[u8]) {
-    let mut text = io::large_buffer();
+pub fn said(rt: &impl Print, v: Verdict, mode: u16, trace: &[u8]) -> io::Result<()> {
+    let mut text = [0u8; 65536];
     let made = lines::line(v, trace, mode, &mut text);
     match made {
-        Line::Wrote(n) => line(&text, n),
-        Line::Short => show::word(b"no line"),
+        Line::Wrote(n) => line(rt, &text, n),
+        Line::Short => show::word(rt, b"no line"),
     }
 }
 
@@ -113,8 +121,9 @@ fn traced(v: Verdict) -> usize {
 }
 
 // A check's answer with its trace.
-pub fn verdict(v: Verdict, mode: u16, trace: &[u8]) {
-    show::word(b" ");
-    said(v, mode, trace);
-    lent::kept(trace, traced(v));
+pub fn verdict(rt: &impl Print, v: Verdict, mode: u16, trace: &[u8]) -> io::Result<()> {
+    show::word(rt, b" ")?;
+    said(rt, v, mode, trace)?;
+    lent::kept(rt, trace, traced(v))?;
+    Ok(())
 }
