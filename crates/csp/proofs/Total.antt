@@ -90,7 +90,7 @@ module _ (flow rule : Table) (fi : Fits flow) (fs : Fits rule) (nodes : List ℕ
         record {
           once = c.1.once;
           sound = λ k i q h. (c.1.sound k (i, q) h).0;
-          whole = λ s i q v. c.1.whole i q (stays_below flow fi v.run fi.start-below) (lower (at_below v.at)) (s, v);
+          whole = λ s i q v. c.1.whole i q (stays_below flow fi v.run fi.start_below) (lower (at_below v.at)) (s, v);
         },
       )
 

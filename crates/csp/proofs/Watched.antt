@@ -60,7 +60,7 @@ module _ (rule : Table) (nodes : List ℕ) (t : Table) (w : Watches rule nodes t
     back = λ {x} {y} {y'} {e} s m. (y', subst (λ (i : ℕ). WatchMove rule nodes i e y') (sym s) (w.sound m), refl);
   }
 
-  module _ (flow : Table) (fi : Fits flow) (fs : Fits rule) (sameE : flow.E ≡ rule.E) (N : NormalForm rule nodes) where
+  module _ (flow : Table) (fi : Fits flow) (fs : Fits rule) (same_E : flow.E ≡ rule.E) (N : NormalForm rule nodes) where
     abbrev Faulty : Type 0
     Faulty = (s : List ℕ) × TraceFault (lts flow) (lts rule) s
 
@@ -72,7 +72,7 @@ module _ (rule : Table) (nodes : List ℕ) (t : Table) (w : Watches rule nodes t
 
     pub watchdog_first : Can (join (lts t) (lts flow) (up_to rule.E)) (suc rule.E) ↔ Faulty
     watchdog_first =
-        let g = watchdog_theorem flow rule fi fs sameE nodes N in
+        let g = watchdog_theorem flow rule fi fs same_E nodes N in
         (λ c. g.0 (can_forth (bisim_sym beside) c), λ f. can_forth beside (g.1 f))
 
     pub watchdog_second : Can (join (lts flow) (lts t) (up_to rule.E)) (suc rule.E) ↔ Faulty

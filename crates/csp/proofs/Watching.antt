@@ -39,7 +39,7 @@ data Beside (flow rule : Table) (nodes : List ℕ) (w q : ℕ) : Type 0 where
   good : (s : List ℕ) → Met flow rule nodes s w q → Beside flow rule nodes w q
   bad : w ≡ length nodes → (s : List ℕ) → TraceFault (lts flow) (lts rule) s → Beside flow rule nodes w q
 
-module _ (flow rule : Table) (fi : Fits flow) (fs : Fits rule) (sameE : flow.E ≡ rule.E) (nodes : List ℕ) (N : NormalForm rule nodes) where
+module _ (flow rule : Table) (fi : Fits flow) (fs : Fits rule) (same_E : flow.E ≡ rule.E) (nodes : List ℕ) (N : NormalForm rule nodes) where
   small : {q q' e : ℕ} → (lts flow).move q e q' → e ≤ rule.E
   small m = omega (arith, fi.event_upto m)
 

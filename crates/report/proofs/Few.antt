@@ -45,7 +45,7 @@ module _ (f r : Table) (fi : Fits f) (nodes : List ℕ) (pairs : List (ℕ × �
       (λ i x h.
       let g = M.sound i x.0 x.1 h in
       let u = at_below g.1.at in
-      let v = stays_below f fi g.1.run fi.start-below in
+      let v = stays_below f fi g.1.run fi.start_below in
       (x.0 * f.n + x.1, pair_below (length nodes) f.n x.0 x.1 u v, record { node = u; state = v; is = refl }))
       one_pair
 

@@ -1,9 +1,9 @@
 // A table's file.
 ghost use Rattle.std.specs.Prelude.{◌-◌, ◌≤◌, length};
 
-use std::fs;
 use std::io::Read;
 use std::rt::Files;
+use std::{fs, str};
 
 // One byte more than the longest table has (12 + 6 × 4,096): a file that fills this much is over 24,588 bytes.
 pub const ROOM: usize = 24589;
@@ -26,10 +26,13 @@ fn read_whole<F: Read>(file: &mut F, buf: &mut [u8]) -> usize
 }
 
 // Reads the table in a file; a file that can't be read, or fills the buffer, counts as an empty table.
-pub fn load<R: Files>(rt: &R, path: &str, buf: &mut [u8]) -> usize
+pub fn load<R: Files>(rt: &R, path: &[u8], buf: &mut [u8]) -> usize
     ensures { result ≤ length buf.old - 1 }
 {
-    let Ok(mut file) = fs::open(rt, path) else {
+    let Ok(name) = str::from_utf8(path) else {
+        return 0;
+    };
+    let Ok(mut file) = fs::open(rt, name) else {
         return 0;
     };
     read_whole(&mut file, buf)

@@ -58,7 +58,7 @@ verdict_back (verdict.Refused w) = ap verdict.Refused (refusal_back w)
 
 -- the numbers of one answer are those of no other
 abbrev pub Kept : {A : Type 0} → (A → List ℕ) → Type 0
-Kept {A} numbersOf = (a b : A) → numbersOf a ≡ numbersOf b → a ≡ b
+Kept {A} numbers_of = (a b : A) → numbers_of a ≡ numbers_of b → a ≡ b
 
 pub read_kept : Kept read_numbers
 read_kept a b h = sym (read_back a) ∙ ap (λ (l : List ℕ). read_by (get_or l 0 0) l) h ∙ read_back b
@@ -77,6 +77,6 @@ part_kept p q h =
 
 -- A promise whose numbers are those of an answer is the call's own promise of that answer.
 pub known :
-    {A : Type 0} (numbersOf : A → List ℕ) (Promised : A → Type 0) (a : A) → Kept numbersOf →
-    Told numbersOf Promised (numbersOf a) → Promised a
-known numbersOf Promised a kept t = subst Promised (kept t.answer a (sym t.told)) t.call
+    {A : Type 0} (numbers_of : A → List ℕ) (Promised : A → Type 0) (a : A) → Kept numbers_of →
+    Told numbers_of Promised (numbers_of a) → Promised a
+known numbers_of Promised a kept t = subst Promised (kept t.answer a (sym t.told)) t.call

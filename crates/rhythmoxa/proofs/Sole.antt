@@ -12,9 +12,9 @@ use Rattle.rhythmoxa.specs.Calls.{Told, ReadTold, WriteTold, PartTold, CheckTold
 
 -- equal answers have equal numbers
 told_one :
-    {A : Type 0} {numbersOf : A → List ℕ} {C D : A → Type 0} {x y : List ℕ} (p : Told numbersOf C x) (q : Told numbersOf D y) →
+    {A : Type 0} {numbers_of : A → List ℕ} {C D : A → Type 0} {x y : List ℕ} (p : Told numbers_of C x) (q : Told numbers_of D y) →
     p.answer ≡ q.answer → x ≡ y
-told_one {numbersOf = numbersOf} p q e = p.told ∙ ap numbersOf e ∙ sym q.told
+told_one {numbers_of = numbers_of} p q e = p.told ∙ ap numbers_of e ∙ sym q.told
 
 -- the numbers and one buffer
 pub record Same (x y new new' : List ℕ) : Type 0 where

@@ -12,10 +12,10 @@ use Rattle.rhythmoxa.specs.Layout.{read_numbers, built_numbers, part_numbers, ve
 use Rattle.rhythmoxa.specs.Place.{Placed}
 
 -- a call gave some answer, and all is said by its numbers
-pub record Told {A : Type 0} (numbersOf : A → List ℕ) (Call : A → Type 0) (numbers : List ℕ) : Type 0 where
+pub record Told {A : Type 0} (numbers_of : A → List ℕ) (Call : A → Type 0) (numbers : List ℕ) : Type 0 where
   pub answer : A
   pub call : Call answer
-  pub told : numbers ≡ numbersOf answer
+  pub told : numbers ≡ numbers_of answer
 
 -- rhx_read: the list is `old` before the call and `new` after it; so are the buffers below
 abbrev pub ReadTold : List ℕ → List ℕ → List ℕ → List ℕ → Type 0

@@ -135,7 +135,7 @@ encoded-bytes t g =
     (bytes_small _
     (more t.n (omega arith)
     (more t.E (omega arith)
-    (more t.start (omega (arith, f.start-below))
+    (more t.start (omega (arith, f.start_below))
     (more (length t.moves) (omega arith) (more 12 (omega arith) (more 0 (omega arith) l)))))))
 
 number_step : (t : List ℕ) (k : ℕ) → k + 2 ≤ length t → numbers (drop k t) ≡ num t k ∷ numbers (drop (k + 2) t)

@@ -34,7 +34,7 @@ module _ (n E s : ℕ) (at : ℕ → Move) (m : ℕ) where
   proper_row w g = record {
     limits = subst (λ (k : ℕ). Within n E k) (sym (row-length at m)) w;
     fits = record {
-      start-below = g.starts;
+      start_below = g.starts;
       from_below = λ {p} {e} {q} i. (one p e q i).from;
       to_below = λ {p} {e} {q} i. (one p e q i).to;
       event_upto = λ {p} {e} {q} i. (one p e q i).event;
@@ -52,7 +52,7 @@ module _ (n E s : ℕ) (at : ℕ → Move) (m : ℕ) where
   pub row_sound : Proper (row_table n E s at m) → Sound n E s at m
   unfolding misnamed circling misnames circles
   row_sound g = record {
-    starts = g.fits.start-below;
+    starts = g.fits.start_below;
     named = some_false _ m (λ j l.
         let i = in_row at m j l in
         simp (lt-leb _ _ (g.fits.from_below i), le-ltb _ _ (g.fits.event_upto i), lt-leb _ _ (g.fits.to_below i)));

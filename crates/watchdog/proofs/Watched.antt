@@ -201,7 +201,7 @@ module _ (rule : Table) (fits : Fits rule) (nodes : List ℕ) (f : Form) (w : Fo
   table_proper = record {
     limits = record { some_state = omega arith; states = omega (arith, w.count_is, w.upto); events = omega arith; moves = omega (arith, watch_count f.next f.count f.events, few) };
     fits = record {
-      start-below = omega arith;
+      start_below = omega arith;
       from_below = λ {p} {e} {q} h. (watch_below (sound h)).0;
       to_below = λ {p} {e} {q} h. (watch_below (sound h)).3;
       event_upto = λ {p} {e} {q} h. (watch_below (sound h)).2;

@@ -1,0 +1,5 @@
+use native.Mathlib.Omega.{arith}
+use Rattle.report.proofs.load.read_whole.Goals as goal
+
+pub returns-then-more-eq0 : goal.returns-then-more-eq0
+returns-then-more-eq0 g c = omega arith
