@@ -6,6 +6,6 @@ pub returns-then-work16-lt32768 : goal.returns-then-work16-lt32768
 unfolding short
 returns-then-work16-lt32768 c = simp (lt-ltb _ _ c.if-work16-lt32768.true)
 
-pub returns : goal.returns
+pub returns-else-work16-lt32768 : goal.returns-else-work16-lt32768
 unfolding short
-returns c = simp (le-ltb _ _ c.if-work16-lt32768.false)
+returns-else-work16-lt32768 c = simp (le-ltb _ _ c.if-work16-lt32768.false)
