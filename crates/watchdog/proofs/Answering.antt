@@ -3,6 +3,7 @@ use Prim.Native.Nat.{ℕ, ◌<◌, ◌≤◌}
 use mathlib.Core.Path.{◌≡◌, sym, ◌∙◌, subst}
 use mathlib.Core.Bool.{Bool, true, false, true≢false}
 use mathlib.Core.Logic.{◌≢◌}
+use Rattle.std.proofs.Common.{Option, Some, None}
 use mathlib.Core.List.{List}
 use native.Mathlib.Omega.{arith}
 use lib.Dec.{ltb}
@@ -50,7 +51,7 @@ module _ (asked : List ℕ) (lacks : Bool) (old : List ℕ) where
   tested_refused w (all_events r k) q = said q (λ a b s. table r.clear (passes (few_states asked r) (refuses k)))
   tested_refused w (short_work r k l) q =
       said q (λ a b s. table r.clear (passes (few_states asked r) (passes k (refuses (sym s ∙ l)))))
-  tested_refused w (passed r k l) q = absurd (let z : ◌≡◌ {A = ℕ} 0 1 = cc in omega arith)
+  tested_refused w (passed r k l) q = absurd (cc)
 
   -- where none does, the nodes decide
   pub record Passed : Type 0 where
@@ -59,10 +60,10 @@ module _ (asked : List ℕ) (lacks : Bool) (old : List ℕ) where
     pub enough : lacks ≡ false
 
   pub tested_clear : {e : Early} → Tested asked lacks e → e ≡ early.Clear → Passed
-  tested_clear (no_table h) q = absurd (let z : ◌≡◌ {A = ℕ} 0 1 = cc in omega arith)
-  tested_clear (many_states h k) q = absurd (let z : ◌≡◌ {A = ℕ} 0 1 = cc in omega arith)
-  tested_clear (all_events h k) q = absurd (let z : ◌≡◌ {A = ℕ} 0 1 = cc in omega arith)
-  tested_clear (short_work h k l) q = absurd (let z : ◌≡◌ {A = ℕ} 0 1 = cc in omega arith)
+  tested_clear (no_table h) q = absurd (cc)
+  tested_clear (many_states h k) q = absurd (cc)
+  tested_clear (all_events h k) q = absurd (cc)
+  tested_clear (short_work h k l) q = absurd (cc)
   tested_clear (passed h k l) q = record { good = h; spare = k; enough = l }
 
   past :
@@ -72,13 +73,13 @@ module _ (asked : List ℕ) (lacks : Bool) (old : List ℕ) where
       table p.good.clear
       (passes (few_states asked p.good) (passes p.spare (passes (λ t. true≢false (sym t ∙ sym s ∙ p.enough)) rest)))
 
-module _ (asked : List ℕ) (lacks : Bool) (old : List ℕ) (p : Passed asked lacks old) (f : Form) (w : Formed (table_of asked) f) where
-  pub answers_over : f.count ≡ 0 → Answers asked lacks old (refused rule 12) old
+module _ (asked : List ℕ) (lacks : Bool) (old : List ℕ) (p : Passed asked lacks old) (o : Option Form) (w : Formed (table_of asked) o) where
+  pub answers_over : o ≡ None → Answers asked lacks old (refused rule 12) old
   answers_over h = past asked lacks old p (refuses (formed_none (table_of asked) (rule_fits asked p.good) w h))
 
-  module _ (some : f.count ≢ 0) where
+  module _ (f : Form) (is : o ≡ Some f) where
     form_of : (nodes : List ℕ) × FormOf (table_of asked) nodes f
-    form_of = formed_some (table_of asked) (rule_fits asked p.good) w (omega arith)
+    form_of = formed_some (table_of asked) (rule_fits asked p.good) w is
 
     pub form_upto : f.count ≤ 64
     form_upto = omega (arith, form_of.1.upto, form_of.1.count_is)

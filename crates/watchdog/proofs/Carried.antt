@@ -4,7 +4,6 @@ use Prim.Native.Nat.{ℕ, suc, ◌≤◌}
 use mathlib.Core.Path.{◌≡◌, refl, sym, ◌∙◌, ap, subst}
 use mathlib.Core.Logic.{◌↔◌}
 use mathlib.Core.List.{List}
-use native.Mathlib.Omega.{arith}
 use lib.ListN.{length, take}
 use lib.Seq.{take_at}
 use Rattle.csp.specs.Lts.{Can}
@@ -33,14 +32,14 @@ pub record Written (asked old : List ℕ) (n : ℕ) (new : List ℕ) : Type 0 wh
 
 module _ (asked work16 work64 old : List ℕ) (n : ℕ) where
   puts_left : {t : List ℕ} {s : Says} {x : List ℕ} → Puts t old s x → s ≡ wrote n → (length t ≡ n) × (length t ≤ length old) × (x ≡ over t old)
-  puts_left (no_room h) e = absurd (let z : ◌≡◌ {A = ℕ} 0 1 = cc in omega arith)
+  puts_left (no_room h) e = absurd (cc)
   puts_left (put h) e = (cc, h, refl)
 
   -- a test that refuses does not write
   past :
       {P : Type 0} {w k : ℕ} {s : Says} {Rest : Says → List ℕ → Type 0} {x : List ℕ} → s ≡ wrote n →
       Unless P (refused w k) Rest old s x → Rest s x
-  past e (refuses p) = absurd (let z : ◌≡◌ {A = ℕ} 0 1 = cc in omega arith)
+  past e (refuses p) = absurd (cc)
   past e (passes q r) = r
 
   writes_left : {s : Says} {x : List ℕ} → refusal asked ≡ Clear → Writes (table_of asked) old s x → s ≡ wrote n → Written asked old n x
@@ -49,7 +48,7 @@ module _ (asked work16 work64 old : List ℕ) (n : ℕ) where
       record { table = w.table; good = g; made = w.made; size = p.0; room = p.1; left = p.2 }
 
   builds_left : {s : Says} {x : List ℕ} → Builds asked work16 work64 old s x → s ≡ wrote n → Written asked old n x
-  builds_left (no_table h) e = absurd (let z : ◌≡◌ {A = ℕ} 0 1 = cc in omega arith)
+  builds_left (no_table h) e = absurd (cc)
   builds_left (table h r) e = writes_left h (past e (past e (past e (past e r)))) e
 
   pub call_left :

@@ -65,8 +65,8 @@ builds_one : {asked work16 work64 old : List ℕ} → One (Builds asked work16 w
 builds_one s s' x x' (no_table {k = k} h) (no_table {k = j} g) =
     let e : k ≡ j = cc in
     record { says = ap (λ (n : ℕ). refused rule n) e; left = refl }
-builds_one s s' x x' (no_table h) (table g r) = absurd (let z : ◌≡◌ {A = ℕ} 0 1 = cc in omega arith)
-builds_one s s' x x' (table h r) (no_table g) = absurd (let z : ◌≡◌ {A = ℕ} 0 1 = cc in omega arith)
+builds_one s s' x x' (no_table h) (table g r) = absurd (cc)
+builds_one s s' x x' (table h r) (no_table g) = absurd (cc)
 builds_one s s' x x' (table h r) (table g q) = unless_one (unless_one (unless_one (unless_one writes_one))) s s' x x' r q
 
 -- One answer, and one content of every lent buffer.

@@ -44,10 +44,9 @@ fn made(rule: &[u8], lacks: bool, out: &mut [u8]) -> Built
     if let Early::Refused(w) = found {
         return Built::Refused(w);
     }
-    let form = normal_of(rule);
-    if form.count == 0 {
+    let Some(form) = normal_of(rule) else {
         return Built::Refused(Refusal::Rule(12));
-    }
+    };
     put_watchdog(form, out)
 }
 
