@@ -1,4 +1,5 @@
 -- The bytes of a table denote it, and a good table is the bytes of what it denotes.
+use Rattle.std.specs.Prelude.{None}
 use Prim.Native.Nat.{ℕ, suc, ◌<◌, ◌≤◌, ◌+◌, ◌*◌, ◌/◌, ◌%◌}
 use mathlib.Core.Path.{◌≡◌, refl, sym, ap, ap₂, ◌∙◌, subst}
 use mathlib.Core.List.{List, [], ◌∷◌, Memᴰ}
@@ -11,7 +12,6 @@ use Rattle.tables.specs.Moves.{move_at, listed}
 use Rattle.tables.specs.Bytes.{states, events, start, count, move_of, row, table_of, threes, encoded}
 use Rattle.tables.specs.Valid.{refusal}
 use Rattle.tables.specs.Reader.{list_of}
-use Rattle.tables.specs.declared.answer.Test.TheVariants.{Clear}
 use Rattle.tables.proofs.Coded.{length-bytes, number_at, Sixteen, none, more, bytes_small}
 use Rattle.tables.proofs.Rows.{same_move, row_same, row-length, threes-row, length-threes, row-threes}
 use Rattle.tables.proofs.Named.{Named}
@@ -105,7 +105,7 @@ module _ (t : Table) where
         moves = row_sound _ _ _ _ _ p;
       }
 
-  pub encoded_clear : Proper t → refusal (encoded t) ≡ Clear
+  pub encoded_clear : Proper t → refusal (encoded t) ≡ None
   encoded_clear g = good_clear (encoded t) (encoded_good g)
 
 threes_small : (n E : ℕ) (l : List Move) → n ≤ 1024 → E ≤ 63 → ((v : Move) → Memᴰ v l → Named n E v) → Sixteen (threes l)

@@ -1,4 +1,5 @@
 -- The moves in the part that is handed out are exactly the moves of that state, in their order.
+use Rattle.std.specs.Prelude.{None}
 use Prim.Native.Nat.{ℕ, zero, suc, ◌<◌, ◌≤◌, ◌+◌, ◌*◌, ◌/◌, ◌%◌}
 use mathlib.Core.Bool.{Bool, true, false}
 use mathlib.Core.Path.{◌≡◌, refl, sym, ap, ap₂, ◌∙◌}
@@ -16,7 +17,6 @@ use Rattle.tables.specs.Moves.{move_at}
 use Rattle.tables.specs.Bytes.{states, count, move_of, row, table_of, moves_in}
 use Rattle.tables.specs.Valid.{refusal}
 use Rattle.tables.specs.State.{keep, of_state, moves_of, leaving}
-use Rattle.tables.specs.declared.answer.Test.TheVariants.{Clear}
 use Rattle.tables.proofs.Rows.{same_move, row_same, in_row}
 use Rattle.tables.proofs.PartOf.{of_none}
 use Rattle.tables.proofs.Tested.{good}
@@ -131,7 +131,7 @@ kept ms s (suc m) h = more (kept ms s m (omega arith))
       moves = two (eqb (move_at ms m).from s) k ∙ sym (leaving-append s (row (move_at ms) m) (move_at ms m ∷ []));
     }
 
-module _ (t : List ℕ) (c : refusal t ≡ Clear) (s : ℕ) where
+module _ (t : List ℕ) (c : refusal t ≡ None) (s : ℕ) where
   all_kept : Kept (drop 12 t) s (count t)
   all_kept = kept (drop 12 t) s (count t) (omega (arith, (good t c).frame.size, length-drop 12 t))
 

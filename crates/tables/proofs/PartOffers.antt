@@ -1,4 +1,5 @@
 -- The offers and the stability that a part shows are those of its state.
+use Rattle.std.specs.Prelude.{None}
 use Prim.Native.Nat.{ℕ, ◌<◌, ◌+◌}
 use mathlib.Core.Path.{◌≡◌, refl, sym, ap, ◌∙◌, subst}
 use mathlib.Core.Logic.{◌⊎◌, inl, inr, ⊎_elim, ◌↔◌}
@@ -14,7 +15,6 @@ use Rattle.tables.specs.Bytes.{row, table_of, moves_in}
 use Rattle.tables.specs.Valid.{refusal}
 use Rattle.tables.specs.State.{moves_of}
 use Rattle.tables.specs.Offers.{Visible, Still, SmallEvents}
-use Rattle.tables.specs.declared.answer.Test.TheVariants.{Clear}
 use Rattle.tables.proofs.Rows.{same_move, of_row}
 use Rattle.tables.proofs.Proper.{proper}
 use Rattle.tables.proofs.PartMoves.{part_sound, part_all}
@@ -49,7 +49,7 @@ module _ (at : ℕ → Move) where
       let k = h s.number s.below in
       omega arith
 
-module _ (t : List ℕ) (c : refusal t ≡ Clear) (s : ℕ) where
+module _ (t : List ℕ) (c : refusal t ≡ None) (s : ℕ) where
   from_part : (v : Move) → Memᴰ v (moves_in (moves_of t s)) → (lts (table_of t)).move s v.event v.to
   from_part v i =
       let p = part_sound t c s v i in

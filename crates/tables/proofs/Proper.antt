@@ -1,4 +1,5 @@
 -- What the tests 2 and 4 to 7 leave of a table, said of its moves as a list: what a builder shows of the table that it writes.
+use Rattle.std.specs.Prelude.{None}
 use Prim.Native.Nat.{ℕ}
 use mathlib.Core.Bool.{Bool, true, false, ◌&&◌}
 use mathlib.Core.Path.{◌≡◌, refl, sym, subst}
@@ -12,7 +13,6 @@ use Rattle.csp.specs.Table.{Move, Table, move, Fits}
 use Rattle.tables.specs.Order.{Ascending}
 use Rattle.tables.specs.Bytes.{count, move_of, row, table_of}
 use Rattle.tables.specs.Valid.{misnames, misnamed, circles, circling, refusal}
-use Rattle.tables.specs.declared.answer.Test.TheVariants.{Clear}
 use Rattle.tables.proofs.Some.{some_false}
 use Rattle.tables.proofs.Rows.{Stands, same_move, row-length, in_row, of_row}
 use Rattle.tables.proofs.Order.{row_ascending, ascending_row}
@@ -73,10 +73,10 @@ module _ (n E s : ℕ) (at : ℕ → Move) (m : ℕ) where
       still v i = pick _ _ v refl refl i
 
 -- A table that no test refuses is proper; above all it fits.
-pub proper : (t : List ℕ) → refusal t ≡ Clear → Proper (table_of t)
+pub proper : (t : List ℕ) → refusal t ≡ None → Proper (table_of t)
 proper t c = let g = good t c in proper_row _ _ _ _ _ g.limits g.moves
 
-pub fits : (t : List ℕ) → refusal t ≡ Clear → Fits (table_of t)
+pub fits : (t : List ℕ) → refusal t ≡ None → Fits (table_of t)
 fits t c = (proper t c).fits
 
 -- p goes by e to q in a table exactly if one of its moves says so

@@ -1,4 +1,5 @@
 -- What the reader does, case by case.
+use Rattle.std.specs.Prelude.{None, Some, Ok, Err}
 use Prim.Native.Nat.{ℕ, ◌<◌, ◌≤◌, ◌*◌, ◌/◌}
 use mathlib.Core.Bool.{true, false}
 use mathlib.Core.Path.{◌≡◌, sym, ap, ◌∙◌}
@@ -11,11 +12,9 @@ use Rattle.tables.specs.Numbers.{numbers, over, AllBytes}
 use Rattle.tables.specs.Bytes.{states, events, start, count}
 use Rattle.tables.specs.Valid.{refusal}
 use Rattle.tables.specs.Reader.{list_of, Given, reads, ReadCall}
-use Rattle.tables.specs.declared.answer.Test.TheVariants.{Clear, Refuses}
 use Rattle.tables.specs.declared.answer.Refusal.TheVariants.{Rule, Call}
-use Rattle.tables.specs.declared.answer.Read.TheVariants as read
 use Rattle.tables.specs.Looking.{Headed}
-use Rattle.tables.specs.Answers.{refused, table, rule, call}
+use Rattle.tables.specs.Answers.{refused, table, rule, call, head}
 use Rattle.tables.proofs.Coded.{length-numbers}
 use Rattle.tables.proofs.Tested.{Good, good}
 
@@ -26,17 +25,17 @@ pub length_list : (t : List ℕ) → Good t → length (list_of t) ≡ 3 * count
 length_list t g = length-numbers (drop 12 t) ∙ half t g
 
 module _ (t old : List ℕ) where
-  pub read_refused : (k : ℕ) → refusal t ≡ Refuses k → reads t old ≡ record { says = refused rule k; list = old }
+  pub read_refused : (k : ℕ) → refusal t ≡ Some k → reads t old ≡ record { says = refused rule k; list = old }
   unfolding reads
   read_refused k h = simp h
 
-  pub read_short : refusal t ≡ Clear → length old < 3 * count t → reads t old ≡ record { says = refused call 18; list = old }
+  pub read_short : refusal t ≡ None → length old < 3 * count t → reads t old ≡ record { says = refused call 18; list = old }
   unfolding reads
   read_short h k =
       let e : ltb (length old) (length (list_of t)) ≡ true = rw (length_list t (good t h)) (lt-ltb _ _ k) in
       simp (h, e)
 
-  pub read_done : refusal t ≡ Clear → 3 * count t ≤ length old →
+  pub read_done : refusal t ≡ None → 3 * count t ≤ length old →
       reads t old ≡ record { says = table (states t) (events t) (start t) (count t); list = over (list_of t) old }
   unfolding reads
   read_done h k =
@@ -45,19 +44,19 @@ module _ (t old : List ℕ) where
 
   -- the same as what a call promises
   module _ (b : AllBytes t) where
-    pub call_refused : (k : ℕ) → refusal t ≡ Refuses k → ReadCall t old (read.Refused (Rule k)) old
+    pub call_refused : (k : ℕ) → refusal t ≡ Some k → ReadCall t old (Err (Rule k)) old
     call_refused k h =
         let w = read_refused k h in
         record { answer = ap (λ (x : Given). x.says) (sym w); list = ap (λ (x : Given). x.list) (sym w); bytes = b }
 
-    pub call_short : refusal t ≡ Clear → length old < 3 * count t → ReadCall t old (read.Refused (Call 18)) old
+    pub call_short : refusal t ≡ None → length old < 3 * count t → ReadCall t old (Err (Call 18)) old
     call_short h k =
         let w = read_short h k in
         record { answer = ap (λ (x : Given). x.says) (sym w); list = ap (λ (x : Given). x.list) (sym w); bytes = b }
 
-    pub call_done : (n E s m : ℕ) (new : List ℕ) → refusal t ≡ Clear → 3 * count t ≤ length old →
+    pub call_done : (n E s m : ℕ) (new : List ℕ) → refusal t ≡ None → 3 * count t ≤ length old →
         Headed t n E s m → new ≡ numbers (drop 12 t) ++ drop (length (drop 12 t) / 2) old →
-        ReadCall t old (read.Table n E s m) new
+        ReadCall t old (Ok (head n E s m)) new
     call_done n E s m new h k g e =
         let w = read_done h k in
         record {

@@ -1,4 +1,5 @@
 -- The writer and the reader undo each other.
+use Rattle.std.specs.Prelude.{Option, None, Some, Result, Ok}
 use Prim.Native.Nat.{ℕ, ◌≤◌, ◌+◌, ◌*◌, ◌/◌, ◌%◌}
 use mathlib.Core.Bool.{Bool, true, false}
 use mathlib.Core.Path.{◌≡◌, refl, sym, ap, ◌∙◌, subst}
@@ -15,13 +16,7 @@ use Rattle.tables.specs.Bytes.{states, events, start, count, table_of, encoded}
 use Rattle.tables.specs.Valid.{refusal}
 use Rattle.tables.specs.Writer.{list_refusal, table_from, Written, written, writes, WriteCall}
 use Rattle.tables.specs.Reader.{list_of, Given, given, reads, ReadCall}
-use Rattle.tables.specs.declared.answer.Test.{Test}
-use Rattle.tables.specs.declared.answer.Test.TheVariants.{Clear, Refuses}
-use Rattle.tables.specs.declared.answer.Built.{Built}
-use Rattle.tables.specs.declared.answer.Read.{Read}
-use Rattle.tables.specs.declared.answer.Built.TheVariants as built
-use Rattle.tables.specs.declared.answer.Read.TheVariants as read
-use Rattle.tables.specs.Answers.{wrote, table}
+use Rattle.tables.specs.Answers.{wrote, table, head}
 use Rattle.tables.proofs.Rows.{row-length}
 use Rattle.tables.proofs.Tested.{good}
 use Rattle.tables.proofs.Writing.{Sayable, sayable, sayable_clear, length-table, threes_back, write_done}
@@ -29,18 +24,20 @@ use Rattle.tables.proofs.Reading.{length_list, read_done}
 use Rattle.tables.proofs.Unique.{built_one, read_one}
 use Rattle.tables.proofs.Proper.{Proper, proper_row, row_within, row_sound, proper}
 use Rattle.tables.proofs.Encoded.{states_is, events_is, start_is, count_is, list_is, encoded_clear, list_moves, encoded_again}
+use Rattle.tables.specs.declared.answer.Refusal.{Refusal}
+use Rattle.tables.specs.declared.answer.Header.{Header}
 
 -- what a writer that wrote says
 pub record WroteIt (n E s : ℕ) (l out : List ℕ) (size : ℕ) : Type 0 where
-  pub clear : list_refusal n E s l ≡ Clear
+  pub clear : list_refusal n E s l ≡ None
   pub room : 12 + 2 * length l ≤ length out
   pub is : size ≡ length (encoded (table_from n E s l))
 
-wrote_cases : (x : Test) (b : Bool) (new old : List ℕ) (size : ℕ) → (written x b new old).says ≡ wrote size →
-    (x ≡ Clear) × ((b ≡ false) × (size ≡ length new))
-wrote_cases (Refuses k) b new old size e = absurd (let z : ◌≡◌ {A = ℕ} 0 1 = cc in omega arith)
-wrote_cases Clear true new old size e = absurd (let z : ◌≡◌ {A = ℕ} 0 1 = cc in omega arith)
-wrote_cases Clear false new old size e = (refl, (refl, cc))
+wrote_cases : (x : Option ℕ) (b : Bool) (new old : List ℕ) (size : ℕ) → (written x b new old).says ≡ wrote size →
+    (x ≡ None) × ((b ≡ false) × (size ≡ length new))
+wrote_cases (Some k) b new old size e = absurd (let z : ◌≡◌ {A = ℕ} 0 1 = cc in omega arith)
+wrote_cases None true new old size e = absurd (let z : ◌≡◌ {A = ℕ} 0 1 = cc in omega arith)
+wrote_cases None false new old size e = (refl, (refl, cc))
 
 pub wrote_says : (n E s : ℕ) (l out : List ℕ) (size : ℕ) → (writes n E s l out).says ≡ wrote size → WroteIt n E s l out size
 unfolding writes
@@ -51,18 +48,18 @@ wrote_says n E s l out size e =
 
 -- what a reader that gave says
 pub record GaveIt (t old : List ℕ) (n E s m : ℕ) : Type 0 where
-  pub clear : refusal t ≡ Clear
+  pub clear : refusal t ≡ None
   pub room : 3 * count t ≤ length old
   pub states : n ≡ states t
   pub events : E ≡ events t
   pub start : s ≡ start t
   pub moves : m ≡ count t
 
-gave_cases : (x : Test) (b : Bool) (t old : List ℕ) (n E s m : ℕ) → (given x b t old).says ≡ table n E s m →
-    (x ≡ Clear) × ((b ≡ false) × (table (states t) (events t) (start t) (count t) ≡ table n E s m))
-gave_cases (Refuses k) b t old n E s m e = absurd (let z : ◌≡◌ {A = ℕ} 0 1 = cc in omega arith)
-gave_cases Clear true t old n E s m e = absurd (let z : ◌≡◌ {A = ℕ} 0 1 = cc in omega arith)
-gave_cases Clear false t old n E s m e = (refl, (refl, e))
+gave_cases : (x : Option ℕ) (b : Bool) (t old : List ℕ) (n E s m : ℕ) → (given x b t old).says ≡ table n E s m →
+    (x ≡ None) × ((b ≡ false) × (table (states t) (events t) (start t) (count t) ≡ table n E s m))
+gave_cases (Some k) b t old n E s m e = absurd (let z : ◌≡◌ {A = ℕ} 0 1 = cc in omega arith)
+gave_cases None true t old n E s m e = absurd (let z : ◌≡◌ {A = ℕ} 0 1 = cc in omega arith)
+gave_cases None false t old n E s m e = (refl, (refl, e))
 
 pub gave : (t old : List ℕ) {n E s m : ℕ} → (reads t old).says ≡ table n E s m → GaveIt t old n E s m
 unfolding reads
@@ -79,7 +76,7 @@ gave t old {n} {E} {s} {m} e =
       moves = cc;
     }
 
-module _ (n E s : ℕ) (l : List ℕ) (h : list_refusal n E s l ≡ Clear) where
+module _ (n E s : ℕ) (l : List ℕ) (h : list_refusal n E s l ≡ None) where
   in_threes : length l % 3 ≡ 0
   in_threes = (sayable n E s l h).threes
 
@@ -99,9 +96,9 @@ module _ (n E s : ℕ) (l : List ℕ) (h : list_refusal n E s l ≡ Clear) where
 
 -- Of the calls, whatever buffer is written into: the bytes written are read back.
 pub write_then_read :
-    (n E s size : ℕ) (l out out' old new : List ℕ) (r : Read) →
-    WriteCall n E s l out (built.Wrote size) out' → ReadCall (take size out') old r new → length l ≤ length old →
-    (r ≡ read.Table n E s (length l / 3)) × (new ≡ over l old)
+    (n E s size : ℕ) (l out out' old new : List ℕ) (r : Result Header Refusal) →
+    WriteCall n E s l out (Ok size) out' → ReadCall (take size out') old r new → length l ≤ length old →
+    (r ≡ Ok (head n E s (length l / 3))) × (new ≡ over l old)
 write_then_read n E s size l out out' old new r p q k =
     let w = wrote_says n E s l out size (sym p.answer) in
     let t : List ℕ = encoded (table_from n E s l) in
@@ -110,9 +107,9 @@ write_then_read n E s size l out out' old new r p q k =
     ∙ take_at t (drop (length t) out) size (sym w.is) in
     let g : reads (take size out') old ≡ record { says = table n E s (length l / 3); list = over l old } =
     ap (λ (x : List ℕ). reads x old) e ∙ write_read n E s l w.clear old k in
-    (read_one r (read.Table n E s (length l / 3)) (q.answer ∙ ap (λ (x : Given). x.says) g), q.list ∙ ap (λ (x : Given). x.list) g)
+    (read_one r (Ok (head n E s (length l / 3))) (q.answer ∙ ap (λ (x : Given). x.says) g), q.list ∙ ap (λ (x : Given). x.list) g)
 
-module _ (t : List ℕ) (c : refusal t ≡ Clear) where
+module _ (t : List ℕ) (c : refusal t ≡ None) where
   third : length (list_of t) / 3 ≡ count t
   third = omega (arith, length_list t (good t c))
 
@@ -142,9 +139,9 @@ module _ (t : List ℕ) (c : refusal t ≡ Clear) where
 
 -- Of the calls, whatever list is read into: the numbers given back are written back, byte for byte.
 pub read_then_write :
-    (n E s m : ℕ) (t old new out out' : List ℕ) (r : Built) →
-    ReadCall t old (read.Table n E s m) new → WriteCall n E s (take (3 * m) new) out r out' → length t ≤ length out →
-    (r ≡ built.Wrote (length t)) × (out' ≡ over t out)
+    (n E s m : ℕ) (t old new out out' : List ℕ) (r : Result ℕ Refusal) →
+    ReadCall t old (Ok (head n E s m)) new → WriteCall n E s (take (3 * m) new) out r out' → length t ≤ length out →
+    (r ≡ Ok (length t)) × (out' ≡ over t out)
 read_then_write n E s m t old new out out' r p q k =
     let w = gave t old (sym p.answer) in
     let x : 3 * m ≡ length (list_of t) = omega (arith, w.moves, length_list t (good t w.clear)) in
@@ -153,4 +150,4 @@ read_then_write n E s m t old new out out' r p q k =
     ∙ take_at (list_of t) (drop (length (list_of t)) old) (3 * m) (sym x) in
     let g : writes n E s (take (3 * m) new) out ≡ record { says = wrote (length t); out = over t out } =
     rw (e, w.states, w.events, w.start) (read_write t w.clear p.bytes out k) in
-    (built_one r (built.Wrote (length t)) (q.answer ∙ ap (λ (x : Written). x.says) g), q.buffer ∙ ap (λ (x : Written). x.out) g)
+    (built_one r (Ok (length t)) (q.answer ∙ ap (λ (x : Written). x.says) g), q.buffer ∙ ap (λ (x : Written). x.out) g)

@@ -1,4 +1,5 @@
 -- What a row of tests that is clear says.
+use Rattle.std.specs.Prelude.{Option, None, Some}
 use Prim.Native.Nat.{ℕ, ◌≤◌, ◌<◌, ◌+◌, ◌*◌}
 use mathlib.Core.Bool.{Bool, true, false, not}
 use mathlib.Core.Path.{◌≡◌, refl}
@@ -13,8 +14,6 @@ use Rattle.csp.specs.Table.{Move}
 use Rattle.tables.specs.Bytes.{states, events, start, count, move_of}
 use Rattle.tables.specs.Looking.{Headed}
 use Rattle.tables.proofs.Some.{or_false}
-use Rattle.tables.specs.declared.answer.Test.{Test}
-use Rattle.tables.specs.declared.answer.Test.TheVariants.{Clear, Refuses}
 use Rattle.tables.specs.Valid.{few_bytes, outside, misframed, astray, misnamed, disordered, circling, later_tests, refusal}
 
 pub record Framed (t : List ℕ) (m : ℕ) : Type 0 where
@@ -52,7 +51,7 @@ within n E m h =
       moves = ltb-false _ _ d.1;
     }
 
-pub when_clear : (b : Bool) (k : ℕ) (later : Test) → when b (Refuses k) later ≡ Clear → (b ≡ false) × (later ≡ Clear)
+pub when_clear : (b : Bool) (k : ℕ) (later : Option ℕ) → when b (Some k) later ≡ None → (b ≡ false) × (later ≡ None)
 when_clear true k later e = absurd (let q : ◌≡◌ {A = ℕ} 0 1 = cc in omega arith)
 when_clear false k later e = (refl, e)
 
@@ -63,7 +62,7 @@ pub record Sound (n E s : ℕ) (at : ℕ → Move) (m : ℕ) : Type 0 where
   pub ascending : disordered at m ≡ false
   pub no_circle : circling at m ≡ false
 
-pub sound : (n E s : ℕ) (at : ℕ → Move) (m : ℕ) → later_tests n E s at m ≡ Clear → Sound n E s at m
+pub sound : (n E s : ℕ) (at : ℕ → Move) (m : ℕ) → later_tests n E s at m ≡ None → Sound n E s at m
 unfolding later_tests
 sound n E s at m h =
     let z = when_clear (astray n s) 4 _ h in
@@ -72,7 +71,7 @@ sound n E s at m h =
     let d = when_clear (circling at m) 7 _ b.1 in
     record { starts = leb-false _ _ z.0; named = a.0; ascending = b.0; no_circle = d.0 }
 
-pub sound_clear : (n E s : ℕ) (at : ℕ → Move) (m : ℕ) → Sound n E s at m → later_tests n E s at m ≡ Clear
+pub sound_clear : (n E s : ℕ) (at : ℕ → Move) (m : ℕ) → Sound n E s at m → later_tests n E s at m ≡ None
 unfolding later_tests
 sound_clear n E s at m g = simp (lt-leb _ _ g.starts, g.named, g.ascending, g.no_circle)
 
@@ -83,7 +82,7 @@ pub record Good (t : List ℕ) : Type 0 where
   pub frame : Framed t (count t)
   pub moves : Sound (states t) (events t) (start t) (move_of t) (count t)
 
-pub good : (t : List ℕ) → refusal t ≡ Clear → Good t
+pub good : (t : List ℕ) → refusal t ≡ None → Good t
 unfolding refusal
 good t h =
     let a = when_clear (few_bytes t) 1 _ h in
@@ -104,7 +103,7 @@ pub framed_clear : (t : List ℕ) (m : ℕ) → Framed t m → misframed t m ≡
 unfolding misframed
 framed_clear t m f = simp (eq-eqb _ _ f.offset, eq-eqb _ _ f.last, eq-eqb _ _ f.size)
 
-pub good_clear : (t : List ℕ) → Good t → refusal t ≡ Clear
+pub good_clear : (t : List ℕ) → Good t → refusal t ≡ None
 unfolding refusal
 good_clear t g =
     simp (
@@ -115,7 +114,7 @@ good_clear t g =
     )
 
 -- what the tests say of a table, one after the other
-pub refused_1 : (t : List ℕ) → length t < 12 → Refuses 1 ≡ refusal t
+pub refused_1 : (t : List ℕ) → length t < 12 → Some 1 ≡ refusal t
 unfolding refusal
 refused_1 t h = simp (lt-ltb _ _ h)
 
@@ -126,11 +125,11 @@ module _ (t : List ℕ) (n E s m : ℕ) (h : Headed t n E s m) where
   framed_is : (b : Bool) → misframed t m ≡ b → misframed t (count t) ≡ b
   framed_is b a = rw h.count at a
 
-  pub refused_2 : outside n E m ≡ true → Refuses 2 ≡ refusal t
+  pub refused_2 : outside n E m ≡ true → Some 2 ≡ refusal t
   unfolding refusal
   refused_2 a = simp (le-ltb _ _ h.long, within_is true a)
 
-  pub refused_3 : outside n E m ≡ false → misframed t m ≡ true → Refuses 3 ≡ refusal t
+  pub refused_3 : outside n E m ≡ false → misframed t m ≡ true → Some 3 ≡ refusal t
   unfolding refusal
   refused_3 a b = simp (le-ltb _ _ h.long, within_is false a, framed_is true b)
 

@@ -1,4 +1,5 @@
 -- What the writer does, case by case.
+use Rattle.std.specs.Prelude.{None, Some, Ok, Err}
 use Prim.Native.Nat.{ℕ, ◌<◌, ◌≤◌, ◌+◌, ◌*◌, ◌/◌, ◌%◌}
 use mathlib.Core.Bool.{true, false}
 use mathlib.Core.Path.{◌≡◌, sym, ap, ◌∙◌}
@@ -14,9 +15,7 @@ use Rattle.tables.specs.Moves.{listed}
 use Rattle.tables.specs.Bytes.{row, threes, header, encoded}
 use Rattle.tables.specs.Valid.{outside, later_tests}
 use Rattle.tables.specs.Writer.{not_in_threes, list_refusal, table_from, Written, writes, WriteCall}
-use Rattle.tables.specs.declared.answer.Test.TheVariants.{Clear, Refuses}
 use Rattle.tables.specs.declared.answer.Refusal.TheVariants.{Rule, Call}
-use Rattle.tables.specs.declared.answer.Built.TheVariants as built
 use Rattle.tables.specs.Answers.{refused, wrote, rule, call}
 use Rattle.tables.proofs.Coded.{length-bytes}
 use Rattle.tables.proofs.Rows.{row-length, threes-row, length-threes}
@@ -28,7 +27,7 @@ pub record Sayable (n E s : ℕ) (l : List ℕ) : Type 0 where
   pub threes : length l % 3 ≡ 0
   pub moves : Sound n E s (listed l) (length l / 3)
 
-pub sayable : (n E s : ℕ) (l : List ℕ) → list_refusal n E s l ≡ Clear → Sayable n E s l
+pub sayable : (n E s : ℕ) (l : List ℕ) → list_refusal n E s l ≡ None → Sayable n E s l
 unfolding list_refusal
 sayable n E s l h =
     let a = when_clear (outside n E (length l / 3)) 2 _ h in
@@ -39,17 +38,17 @@ sayable n E s l h =
       moves = sound _ _ _ _ _ b.1;
     }
 
-pub sayable_clear : (n E s : ℕ) (l : List ℕ) → Sayable n E s l → list_refusal n E s l ≡ Clear
+pub sayable_clear : (n E s : ℕ) (l : List ℕ) → Sayable n E s l → list_refusal n E s l ≡ None
 unfolding list_refusal
 sayable_clear n E s l g =
     simp (within_clear _ _ _ g.limits, eq-eqb _ _ g.threes, sound_clear _ _ _ _ _ g.moves)
 
 module _ (n E s : ℕ) (l : List ℕ) where
-  pub unsayable_2 : outside n E (length l / 3) ≡ true → Refuses 2 ≡ list_refusal n E s l
+  pub unsayable_2 : outside n E (length l / 3) ≡ true → Some 2 ≡ list_refusal n E s l
   unfolding list_refusal
   unsayable_2 a = simp a
 
-  pub unsayable_3 : outside n E (length l / 3) ≡ false → (length l % 3 ≡ 0 → ⊥) → Refuses 3 ≡ list_refusal n E s l
+  pub unsayable_3 : outside n E (length l / 3) ≡ false → (length l % 3 ≡ 0 → ⊥) → Some 3 ≡ list_refusal n E s l
   unfolding list_refusal
   unsayable_3 a b = simp (a, ne_eqb _ _ b)
 
@@ -84,16 +83,16 @@ module _ (n E s : ℕ) (l : List ℕ) (h : length l % 3 ≡ 0) where
       ∙ ap (λ (x : List ℕ). x ++ drop (length (encoded (table_from n E s l))) o) (sym encoded_is)
 
 module _ (n E s : ℕ) (l old : List ℕ) where
-  pub write_refused : (k : ℕ) → list_refusal n E s l ≡ Refuses k → writes n E s l old ≡ record { says = refused rule k; out = old }
+  pub write_refused : (k : ℕ) → list_refusal n E s l ≡ Some k → writes n E s l old ≡ record { says = refused rule k; out = old }
   unfolding writes
   write_refused k h = simp h
 
-  pub write_short : list_refusal n E s l ≡ Clear → length old < 12 + 2 * length l →
+  pub write_short : list_refusal n E s l ≡ None → length old < 12 + 2 * length l →
       writes n E s l old ≡ record { says = refused call 18; out = old }
   unfolding writes
   write_short h k = simp (h, length-table n E s l (sayable n E s l h).threes, lt-ltb _ _ k)
 
-  pub write_done : list_refusal n E s l ≡ Clear → 12 + 2 * length l ≤ length old →
+  pub write_done : list_refusal n E s l ≡ None → 12 + 2 * length l ≤ length old →
       writes n E s l old ≡ record { says = wrote (12 + 2 * length l); out = over (encoded (table_from n E s l)) old }
   unfolding writes
   write_done h k =
@@ -102,14 +101,14 @@ module _ (n E s : ℕ) (l old : List ℕ) where
       simp (h, e) (ap (λ (x : ℕ). record { says = wrote x; out = over (encoded (table_from n E s l)) old }) z)
 
   -- the same as what a call promises
-  pub call_refused : (k : ℕ) → list_refusal n E s l ≡ Refuses k → WriteCall n E s l old (built.Refused (Rule k)) old
+  pub call_refused : (k : ℕ) → list_refusal n E s l ≡ Some k → WriteCall n E s l old (Err (Rule k)) old
   call_refused k h = let w = write_refused k h in record { answer = ap (λ (x : Written). x.says) (sym w); buffer = ap (λ (x : Written). x.out) (sym w) }
 
-  pub call_short : list_refusal n E s l ≡ Clear → length old < 12 + 2 * length l → WriteCall n E s l old (built.Refused (Call 18)) old
+  pub call_short : list_refusal n E s l ≡ None → length old < 12 + 2 * length l → WriteCall n E s l old (Err (Call 18)) old
   call_short h k = let w = write_short h k in record { answer = ap (λ (x : Written). x.says) (sym w); buffer = ap (λ (x : Written). x.out) (sym w) }
 
-  pub call_done : (new : List ℕ) → list_refusal n E s l ≡ Clear → 12 + 2 * length l ≤ length old →
-      new ≡ over (encoded (table_from n E s l)) old → WriteCall n E s l old (built.Wrote (12 + 2 * length l)) new
+  pub call_done : (new : List ℕ) → list_refusal n E s l ≡ None → 12 + 2 * length l ≤ length old →
+      new ≡ over (encoded (table_from n E s l)) old → WriteCall n E s l old (Ok (12 + 2 * length l)) new
   call_done new h k e =
       let w = write_done h k in
       record { answer = ap (λ (x : Written). x.says) (sym w); buffer = e ∙ ap (λ (x : Written). x.out) (sym w) }

@@ -16,3 +16,4 @@ pub mod Offers
 pub mod Looking
 pub mod Seek
 pub mod Putting
+pub mod Held

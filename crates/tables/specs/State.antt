@@ -1,11 +1,9 @@
 -- The moves of one state.
-use Rattle.std.specs.Prelude.{ℕ, zero, suc, ◌*◌, Bool, true, false, List, [], ◌∷◌, ◌++◌, take, drop, ltb, eqb}
+use Rattle.std.specs.Prelude.{ℕ, zero, suc, ◌*◌, Bool, true, false, List, [], ◌∷◌, ◌++◌, take, drop, ltb, eqb, Option, None, Some}
 use Rattle.csp.specs.Table.{Move}
 use Rattle.tables.specs.Moves.{move_at}
 use Rattle.tables.specs.Bytes.{states, count}
 use Rattle.tables.specs.Valid.{refusal}
-use Rattle.tables.specs.declared.answer.Test.{Test}
-use Rattle.tables.specs.declared.answer.Test.TheVariants.{Clear, Refuses}
 
 -- the list where the test holds, else nothing
 abbrev pub keep : {A : Type 0} → Bool → List A → List A
@@ -18,9 +16,9 @@ of_state ms s zero = []
 of_state ms s (suc j) = of_state ms s j ++ keep (eqb (move_at ms j).from s) (take 6 (drop (6 * j) ms))
 
 -- nothing, where the table is refused
-abbrev pub unless_refused : Test → List ℕ → List ℕ
-unless_refused Clear l = l
-unless_refused (Refuses k) l = []
+abbrev pub unless_refused : Option ℕ → List ℕ → List ℕ
+unless_refused None l = l
+unless_refused (Some k) l = []
 
 -- "The moves of one state are handed out as a part of the lent table; a refused table or a state not below n gives an empty part"
 unfoldable pub moves_of : List ℕ → ℕ → List ℕ

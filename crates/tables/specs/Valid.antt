@@ -1,11 +1,9 @@
 -- The refusals 1 to 7 of one table.
-use Rattle.std.specs.Prelude.{ℕ, ◌+◌, ◌*◌, ◌-◌, Bool, cond, not, ◌&&◌, ◌||◌, List, length, ltb, leb, eqb}
+use Rattle.std.specs.Prelude.{ℕ, ◌+◌, ◌*◌, ◌-◌, Bool, cond, not, ◌&&◌, ◌||◌, List, length, ltb, leb, eqb, Option, None, Some}
 use Rattle.csp.specs.Table.{Move}
 use Rattle.tables.specs.Numbers.{num}
 use Rattle.tables.specs.Tests.{some, when}
 use Rattle.tables.specs.Bytes.{states, events, start, count, move_of}
-use Rattle.tables.specs.declared.answer.Test.{Test}
-use Rattle.tables.specs.declared.answer.Test.TheVariants.{Clear, Refuses}
 
 -- 1: "fewer than 12 bytes"
 abbrev pub few_bytes : List ℕ → Bool
@@ -52,18 +50,18 @@ unfoldable pub circling : (ℕ → Move) → ℕ → Bool
 circling at m = some (λ j. circles (at j)) m
 
 -- the first of 4 to 7 that holds
-abbrev pub first_of : Bool → Bool → Bool → Bool → Test
+abbrev pub first_of : Bool → Bool → Bool → Bool → Option ℕ
 first_of four five six seven =
-    when four (Refuses 4) (when five (Refuses 5) (when six (Refuses 6) (when seven (Refuses 7) Clear)))
+    when four (Some 4) (when five (Some 5) (when six (Some 6) (when seven (Some 7) None)))
 
 -- 4 to 7, "each over the whole table before the next"; the writer tries them of a list
-unfoldable pub later_tests : ℕ → ℕ → ℕ → (ℕ → Move) → ℕ → Test
+unfoldable pub later_tests : ℕ → ℕ → ℕ → (ℕ → Move) → ℕ → Option ℕ
 later_tests n E s at m = first_of (astray n s) (misnamed n E at m) (disordered at m) (circling at m)
 
 -- "Within one table 1 to 7 are tried in that order"
-unfoldable pub refusal : List ℕ → Test
+unfoldable pub refusal : List ℕ → Option ℕ
 refusal t =
-    when (few_bytes t) (Refuses 1)
-    (when (outside (states t) (events t) (count t)) (Refuses 2)
-    (when (misframed t (count t)) (Refuses 3)
+    when (few_bytes t) (Some 1)
+    (when (outside (states t) (events t) (count t)) (Some 2)
+    (when (misframed t (count t)) (Some 3)
     (later_tests (states t) (events t) (start t) (move_of t) (count t))))

@@ -4,7 +4,6 @@ ghost use Rattle.tables.specs.Moves.{meant, listed};
 ghost use Rattle.tables.specs.Looking.{Looks};
 ghost use Rattle.tables.specs.Writer.{list_refusal};
 
-use crate::answer::Test;
 use crate::moves::{Found, Move};
 use crate::num::wide16;
 use crate::{moves, valid};
@@ -36,22 +35,22 @@ fn look_over(list: &[u16], m: usize, n: usize, e: usize) -> Found
 }
 
 // The first of 2 to 7 that applies, of numbers widened.
-fn test_wide(n: usize, e: usize, start: usize, list: &[u16]) -> Test
+fn test_wide(n: usize, e: usize, start: usize, list: &[u16]) -> Option<u8>
     ensures { result ≡ list_refusal n e start list.now }
 {
     let m = list.len() / 3;
     if valid::is_outside(n, e, m) {
-        return Test::Refuses(2);
+        return Some(2);
     }
     if list.len() % 3 != 0 {
-        return Test::Refuses(3);
+        return Some(3);
     }
     let found = look_over(list, m, n, e);
     moves::verdict(start >= n, found)
 }
 
 // The first of 2 to 7 that applies to what is to be written.
-pub fn test(n: u16, e: u16, start: u16, list: &[u16]) -> Test
+pub fn test(n: u16, e: u16, start: u16, list: &[u16]) -> Option<u8>
     ensures { result ≡ list_refusal n e start list.now }
 {
     test_wide(wide16(n), wide16(e), wide16(start), list)

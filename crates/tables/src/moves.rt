@@ -4,7 +4,6 @@ ghost use Rattle.tables.specs.Moves.{meant, move_at};
 ghost use Rattle.tables.specs.Valid.{misnames, precedes, circles, first_of};
 ghost use Rattle.tables.specs.Looking.{Nothing, LooksAt};
 
-use crate::answer::Test;
 use crate::num::get;
 
 #[derive(Clone, Copy)]
@@ -121,20 +120,20 @@ pub fn look(f: Found, i: usize, v: Move, n: usize, e: usize) -> Found
 }
 
 // The first of 4 to 7 that holds.
-pub fn verdict(astray: bool, f: Found) -> Test
+pub fn verdict(astray: bool, f: Found) -> Option<u8>
     ensures { result ≡ first_of astray f.misnamed f.disordered f.circling }
 {
     if astray {
-        return Test::Refuses(4);
+        return Some(4);
     }
     if f.misnamed {
-        return Test::Refuses(5);
+        return Some(5);
     }
     if f.disordered {
-        return Test::Refuses(6);
+        return Some(6);
     }
     if f.circling {
-        return Test::Refuses(7);
+        return Some(7);
     }
-    Test::Clear
+    None
 }

@@ -6,7 +6,7 @@ ghost use Rattle.tables.specs.Bytes.{header, encoded};
 ghost use Rattle.tables.specs.Putting.{move_bytes, into};
 ghost use Rattle.tables.specs.Writer.{table_from, WriteCall};
 
-use crate::answer::{Built, Refusal, Test};
+use crate::answer::Refusal;
 use crate::listed;
 use crate::num::put_all;
 
@@ -39,17 +39,16 @@ fn put_table(n: u16, e: u16, start: u16, list: &[u16], out: &mut [u8])
 }
 
 // Writes the table of n, e, start and a list of moves.
-pub fn write(n: u16, e: u16, start: u16, list: &[u16], out: &mut [u8]) -> Built
+pub fn write(n: u16, e: u16, start: u16, list: &[u16], out: &mut [u8]) -> Result<usize, Refusal>
     ensures { WriteCall n e start list.now out.old result out.new }
 {
-    let found = listed::test(n, e, start, list);
-    if let Test::Refuses(k) = found {
-        return Built::Refused(Refusal::Rule(k));
+    if let Some(k) = listed::test(n, e, start, list) {
+        return Err(Refusal::Rule(k));
     }
     let size = 12 + 2 * list.len();
     if out.len() < size {
-        return Built::Refused(Refusal::Call(18));
+        return Err(Refusal::Call(18));
     }
     put_table(n, e, start, list, out);
-    Built::Wrote(size)
+    Ok(size)
 }

@@ -1,63 +1,53 @@
 use Prim.Native.Nat.{◌/◌, ℕ}
 use mathlib.Core.List.{List, ◌++◌}
-use mathlib.Core.Path.{◌≡◌, ap, sym, ◌∙◌}
+use mathlib.Core.Path.{ap, ◌∙◌}
 use native.Mathlib.Omega.{arith}
-use lib.ListN.{drop, length}
+use lib.ListN.{drop, length, length-drop}
+use Rattle.std.proofs.lemmas.Result.{err_from_is_err_and}
 use Rattle.tables.specs.Numbers.{numbers}
-use Rattle.tables.specs.Valid.{refusal}
-use Rattle.tables.specs.declared.answer.Test.TheVariants.{Clear}
-use Rattle.tables.proofs.Parts.{tail_lent}
 use Rattle.tables.proofs.Tested.{good}
 use Rattle.tables.proofs.Reading.{call_refused, call_short, call_done}
 use Rattle.tables.proofs.read.read.Goals as goal
 
-pub returns-in-Refuses : goal.returns-in-Refuses
-returns-in-Refuses c = call_refused _ _
-    (λ i. omega (arith, c.type_inv.t i))
-    _
-    (sym c.test-found.ensures ∙ c.in-Refuses.is)
-
-pub get-m-requires : goal.get-m-requires
-get-m-requires c = omega (arith, (good _ (sym c.test-found.ensures ∙ c.in_default.is)).long)
+pub returns-in_err-table : goal.returns-in_err-table
+returns-in_err-table c = let p = err_from_is_err_and c.from_residual.result c.from_residual.ensures.1 in
+    let f = c.in_err-table.ensures.err in
+    rw (p.1, p.2, f.is) (call_refused _ _ (λ i. omega (arith, c.type_inv.t i)) _ f.first)
 
 pub returns-then-list-m : goal.returns-then-list-m
-returns-then-list-m c = call_short _ _
-    (λ i. omega (arith, c.type_inv.t i))
-    (sym c.test-found.ensures ∙ c.in_default.is)
-    (omega (arith, c.get-m.ensures.0))
-
-pub slice_bounds-give-count : goal.slice_bounds-give-count
-slice_bounds-give-count c = omega (arith, (good _ (sym c.test-found.ensures ∙ c.in_default.is)).long)
-
-pub slice_bounds-give-start : goal.slice_bounds-give-start
-slice_bounds-give-start c = omega (arith, (good _ (sym c.test-found.ensures ∙ c.in_default.is)).long)
+returns-then-list-m c = let h = c.in_ok-table.ensures.ok in
+    let m = rw h.bytes at c.count-m.ensures.count in
+    call_short _ _ (λ i. omega (arith, c.type_inv.t i)) h.good (omega (arith, m))
 
 pub give-requires : goal.give-requires
-give-requires c = let g = good _ (sym c.test-found.ensures ∙ c.in_default.is) in omega (arith, c.get-m.ensures.0, g.frame.size)
+give-requires c = let h = c.in_ok-table.ensures.ok in
+    let m = rw h.bytes at c.count-m.ensures.count in
+    let p = rw h.bytes at c.moves.ensures.part in
+    rw p (omega (arith, m, length-drop 12 c.args.t.now, (good _ h.good).frame.size))
 
 pub get16-requires : goal.get16-requires
-get16-requires c = omega (arith, (good _ (sym c.test-found.ensures ∙ c.in_default.is)).long)
+get16-requires c = omega (arith, (good _ c.in_ok-table.ensures.ok.good).long)
 
 pub get16-requires-2 : goal.get16-requires-2
-get16-requires-2 c = omega (arith, (good _ (sym c.test-found.ensures ∙ c.in_default.is)).long)
+get16-requires-2 c = omega (arith, (good _ c.in_ok-table.ensures.ok.good).long)
 
 pub get16-requires-3 : goal.get16-requires-3
-get16-requires-3 c = omega (arith, (good _ (sym c.test-found.ensures ∙ c.in_default.is)).long)
+get16-requires-3 c = omega (arith, (good _ c.in_ok-table.ensures.ok.good).long)
 
 pub returns : goal.returns
-returns c = let a = c.args in
-    let t = a.t.now in
-    let h : refusal t ≡ Clear = sym c.test-found.ensures ∙ c.in_default.is in
-    call_done t a.list.now
+returns c = let h = c.in_ok-table.ensures.ok in
+    let t = c.args.t.now in
+    let m = rw h.bytes at c.count-m.ensures.count in
+    call_done t c.args.list.now
     (λ i. omega (arith, c.type_inv.t i))
-    _ _ _ _ _ h
-    (omega (arith, c.get-m.ensures.0))
+    _ _ _ _ _ h.good
+    (omega (arith, m))
     (record {
-      long = (good t h).long;
+      long = (good t h.good).long;
       states = c.get16.ensures;
       events = c.get16-2.ensures;
       start = c.get16-3.ensures;
-      count = c.get-m.ensures.0;
-      small = c.get-m.ensures.1;
+      count = m;
+      small = omega (arith, m, (good t h.good).limits.moves);
     })
-    (c.give.ensures ∙ ap (λ (x : List ℕ). numbers x ++ drop (length x / 2) a.list.now) (tail_lent 12 t))
+    (c.give.ensures ∙ ap (λ (x : List ℕ). numbers x ++ drop (length x / 2) c.args.list.now) (rw h.bytes at c.moves.ensures.part))
