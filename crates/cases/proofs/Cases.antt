@@ -6,6 +6,8 @@ use mathlib.Core.List.{List, [], ◌∷◌}
 use Prim.Native.Nat.{ℕ}
 use native.Mathlib.Decide.{ℕ_discrete, dec_lt}
 use lib.ListN.{length}
+use Rattle.std.specs.Prelude as prelude
+use Rattle.std.specs.Prelude.{None, Some}
 use Rattle.sets.specs.Sets.{bit, has}
 use Rattle.sets.proofs.Laws.{no_higher?}
 use Rattle.csp.specs.Numbered.{At}
@@ -18,8 +20,6 @@ use Rattle.tables.specs.Tests.{some as any}
 use Rattle.tables.specs.Moves.{move_at}
 use Rattle.tables.specs.Bytes.{row, table_of, threes, encoded}
 use Rattle.tables.specs.Valid.{outside, misframed, later_tests, refusal, misnames, precedes, circles, misnamed, disordered, circling}
-use Rattle.tables.specs.declared.answer.Test.{Test}
-use Rattle.tables.specs.declared.answer.Test.TheVariants.{Clear, Refuses}
 use Rattle.tables.proofs.Proper.{fits}
 use Rattle.cases.specs.Cases.{Case, check, join, watchdog, Good, Result, RightCase, right_check, right_join, right_watchdog, cases}
 
@@ -47,9 +47,9 @@ witnesses =
     silent : List Visit
     silent = visit 0 0 [] ∷ visit 0 1 [] ∷ []
 
-abbrev clear? : (f : Test) → Option (f ≡ Clear)
-clear? Clear = some refl
-clear? (Refuses k) = none
+abbrev clear? : (f : prelude.Option ℕ) → Option (f ≡ None)
+clear? None = some refl
+clear? (Some k) = none
 
 abbrev good? : (t : List ℕ) → Option (Good t)
 good? t = clear? (refusal t)

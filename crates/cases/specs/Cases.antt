@@ -1,5 +1,5 @@
 -- The marked cases: "The marked cases form a single table, proved once against the definitions."
-use Rattle.std.specs.Prelude.{◌≡◌, List, [], ◌∷◌, ℕ, ◌+◌, ◌^◌, length}
+use Rattle.std.specs.Prelude.{◌≡◌, List, [], ◌∷◌, ℕ, ◌+◌, ◌^◌, length, None}
 use Rattle.sets.specs.Sets.{has}
 use Rattle.csp.specs.Joined.{Joined}
 use Rattle.csp.specs.Normal.{NormalForm}
@@ -7,7 +7,6 @@ use Rattle.csp.specs.Verdict.{Verdict, passes, trace_fault, refusal_fault, Right
 use Rattle.csp.specs.Watchdog.{Watches}
 use Rattle.tables.specs.Bytes.{table_of}
 use Rattle.tables.specs.Valid.{refusal}
-use Rattle.tables.specs.declared.answer.Test.TheVariants.{Clear}
 use Rattle.cases.specs.Tables.{bytes_r, bytes_stop, bytes_div, bytes_flow2, bytes_flow3, bytes_rule7, bytes_flow7, bytes_flow9, bytes_join10, bytes_loop11, bytes_join11, bytes_watchdog12}
 
 -- A case: its number, what is given to the call, and what it answers; of a builder, the length of the table and the table.
@@ -18,7 +17,7 @@ pub data Case : Type 0 where
 
 -- a table that is not refused
 abbrev pub Good : List ℕ → Type 0
-Good t = refusal t ≡ Clear
+Good t = refusal t ≡ None
 
 -- a table of that size, not refused: what a builder leaves in the result buffer
 pub record Result (size : ℕ) (t : List ℕ) : Type 0 where

@@ -1,5 +1,6 @@
 // The trial tables that the order marks, byte by byte: a line for the header, then a line a move. The function of each
-// says that its bytes are those of the table in specs/.
+// says that its bytes are those of the table in specs/. One function for all would be no plainer: the arrays differ in
+// length, so it would hand out slices, by a match with an arm for each.
 #![tactic(auto)]
 
 ghost use Rattle.std.specs.Prelude.{◌≡◌};
