@@ -3,6 +3,7 @@ use mathlib.Core.Path.{◌≡◌, refl, ap, sym, subst₂, ◌∙◌}
 use mathlib.Core.Logic.{◌≢◌}
 use mathlib.Core.Bool.{Bool, true, false, true≢false}
 use mathlib.Core.List.{List}
+use Rattle.std.specs.Prelude.{Option, None, Some}
 use Prim.Native.Nat.{ℕ, zero, suc, ◌≤◌, ◌<◌}
 use native.Mathlib.Omega.{arith}
 use borrow.Author.Tests.{eqb-true, ltb-false, lt-ltb, le-ltb, eq-eqb, ne_eqb, not-false}
@@ -11,8 +12,6 @@ use Rattle.tables.specs.Bytes.{states, events}
 use Rattle.tables.specs.Valid.{refusal}
 use Rattle.tables.specs.Rule.{has_many_states}
 use Rattle.tables.specs.Answers.{rule, flow, call}
-use Rattle.tables.specs.declared.answer.Test.{Test}
-use Rattle.tables.specs.declared.answer.Test.TheVariants.{Clear, Refuses}
 use Rattle.refine.specs.Refusals.{Turned, let_in, turned, own, wrong_mode, other_events, tests}
 
 wrong : (mode : ℕ) → 1 < mode → wrong_mode mode ≡ true
@@ -29,16 +28,16 @@ module _ (r f : List ℕ) (mode : ℕ) (short : Bool) where
   mode_turned h = rw (wrong mode h)
 
   module _ (m : mode ≤ 1) where
-    pub rule_turned : (k : ℕ) → refusal r ≡ Refuses k → tests r f mode short ≡ turned rule k
+    pub rule_turned : (k : ℕ) → refusal r ≡ Some k → tests r f mode short ≡ turned rule k
     unfolding tests
     rule_turned k h = rw (allowed mode m, h)
 
-    module _ (cr : refusal r ≡ Clear) where
-      pub flow_turned : (k : ℕ) → refusal f ≡ Refuses k → tests r f mode short ≡ turned flow k
+    module _ (cr : refusal r ≡ None) where
+      pub flow_turned : (k : ℕ) → refusal f ≡ Some k → tests r f mode short ≡ turned flow k
       unfolding tests
       flow_turned k h = rw (allowed mode m, cr, h)
 
-      module _ (cf : refusal f ≡ Clear) where
+      module _ (cf : refusal f ≡ None) where
         pub events_turned : events r ≢ events f → tests r f mode short ≡ turned call 9
         unfolding tests
         events_turned h = rw (allowed mode m, cr, cf, ne_eqb (events r) (events f) h)
@@ -65,8 +64,8 @@ module _ (r f : List ℕ) (mode : ℕ) (short : Bool) where
 -- workspace is short.
 pub record LetIn (r f : List ℕ) (mode : ℕ) (short : Bool) : Type 0 where
   pub mode_upto : mode ≤ 1
-  pub rule_clear : refusal r ≡ Clear
-  pub flow_clear : refusal f ≡ Clear
+  pub rule_clear : refusal r ≡ None
+  pub flow_clear : refusal f ≡ None
   pub events_same : events r ≡ events f
   pub states_upto : states r ≤ 64
   pub long : short ≡ false
@@ -75,9 +74,9 @@ when_in : (b : Bool) (w k : ℕ) (later : Turned) → when b (turned w k) later 
 when_in true w k later h = absurd (let z : ◌≡◌ {A = ℕ} 0 1 = cc in omega arith)
 when_in false w k later h = (refl, h)
 
-own_in : (w : ℕ) (t : Test) (later : Turned) → own w t later ≡ let_in → (t ≡ Clear) × (later ≡ let_in)
-own_in w (Refuses k) later h = absurd (let z : ◌≡◌ {A = ℕ} 0 1 = cc in omega arith)
-own_in w Clear later h = (refl, h)
+own_in : (w : ℕ) (t : Option ℕ) (later : Turned) → own w t later ≡ let_in → (t ≡ None) × (later ≡ let_in)
+own_in w (Some k) later h = absurd (let z : ◌≡◌ {A = ℕ} 0 1 = cc in omega arith)
+own_in w None later h = (refl, h)
 
 mode_low : (mode : ℕ) → wrong_mode mode ≡ false → mode ≤ 1
 mode_low zero h = omega arith
@@ -111,14 +110,14 @@ module _ (P : ℕ → ℕ → Type 0) where
   when_each false v j later p q h = q h
 
   own_each :
-      (v : ℕ) (t : Test) (later : Turned) {w k : ℕ} → ((j : ℕ) → t ≡ Refuses j → P v j) → (later ≡ turned w k → P w k) →
+      (v : ℕ) (t : Option ℕ) (later : Turned) {w k : ℕ} → ((j : ℕ) → t ≡ Some j → P v j) → (later ≡ turned w k → P w k) →
       own v t later ≡ turned w k → P w k
-  own_each v (Refuses j) later p q h = subst₂ P (cc) (cc) (p j refl)
-  own_each v Clear later p q h = q h
+  own_each v (Some j) later p q h = subst₂ P (cc) (cc) (p j refl)
+  own_each v None later p q h = q h
 
   pub turned_each :
       (r f : List ℕ) (mode : ℕ) (short : Bool) {w k : ℕ} → (wrong_mode mode ≡ true → P call 8) →
-      ((j : ℕ) → refusal r ≡ Refuses j → P rule j) → ((j : ℕ) → refusal f ≡ Refuses j → P flow j) → P call 9 → P rule 10 →
+      ((j : ℕ) → refusal r ≡ Some j → P rule j) → ((j : ℕ) → refusal f ≡ Some j → P flow j) → P call 9 → P rule 10 →
       P call 11 → tests r f mode short ≡ turned w k → P w k
   unfolding tests
   turned_each r f mode short p8 pr pf p9 p10 p11 =
@@ -131,7 +130,7 @@ module _ (P : ℕ → ℕ → Type 0) where
 
 -- Two good tables and a mode that is allowed are turned away by 9, 10 or 11 only.
 pub good_turned :
-    (r f : List ℕ) (mode : ℕ) (short : Bool) → mode ≤ 1 → refusal r ≡ Clear → refusal f ≡ Clear → (w k : ℕ) →
+    (r f : List ℕ) (mode : ℕ) (short : Bool) → mode ≤ 1 → refusal r ≡ None → refusal f ≡ None → (w k : ℕ) →
     tests r f mode short ≡ turned w k → (9 ≤ k) × (k ≤ 11)
 good_turned r f mode short m cr cf w k =
     turned_each (λ v j. (9 ≤ j) × (j ≤ 11)) r f mode short

@@ -1,12 +1,10 @@
 -- The refusals that a check gives before the rule's nodes are looked for; r are the bytes of the rule, f those of the flow.
-use Rattle.std.specs.Prelude.{Bool, not, ◌||◌, List, ℕ, eqb}
+use Rattle.std.specs.Prelude.{Bool, not, ◌||◌, List, ℕ, eqb, Option, None, Some}
 use Rattle.tables.specs.Tests.{when}
 use Rattle.tables.specs.Bytes.{events}
 use Rattle.tables.specs.Valid.{refusal}
 use Rattle.tables.specs.Rule.{has_many_states}
 use Rattle.tables.specs.Answers.{rule, flow, call}
-use Rattle.tables.specs.declared.answer.Test.{Test}
-use Rattle.tables.specs.declared.answer.Test.TheVariants.{Clear, Refuses}
 
 -- What these tests say of a call: it is let in, or turned away with a refusal, which "says whose table is at fault, or that
 -- the call is", and the number.
@@ -15,9 +13,9 @@ pub data Turned : Type 0 where
   turned : (whose number : ℕ) → Turned
 
 -- a table's own 1 to 7
-abbrev pub own : ℕ → Test → Turned → Turned
-own w (Refuses k) later = turned w k
-own w Clear later = later
+abbrev pub own : ℕ → Option ℕ → Turned → Turned
+own w (Some k) later = turned w k
+own w None later = later
 
 -- 8: "mode is neither 0 nor 1"
 abbrev pub wrong_mode : ℕ → Bool

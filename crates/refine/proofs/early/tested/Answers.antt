@@ -1,35 +1,51 @@
-use Rattle.tables.proofs.Tested.{good}
+use Rattle.std.proofs.Common.{◌≡◌, sym, ap, ◌∙◌}
+use Rattle.std.proofs.lemmas.Result.{err_from_is_err_and}
+use Rattle.tables.specs.Bytes.{states, events}
 use Rattle.refine.proofs.Tested.{mode_turned, rule_turned, flow_turned, events_turned, states_turned, short_turned, none_turned}
 use native.Mathlib.Omega.{arith}
-use mathlib.Core.Path.{sym, ◌∙◌}
 use Rattle.refine.proofs.early.tested.Goals as goal
 
-pub returns-then-mode-gt1 : goal.returns-then-mode-gt1
-returns-then-mode-gt1 c = sym (mode_turned _ _ _ _ c.if-mode-gt1.true)
+pub returns-then-mode-gt1-clause-found : goal.returns-then-mode-gt1-clause-found
+returns-then-mode-gt1-clause-found c = sym (mode_turned _ _ _ _ (omega arith))
 
-pub returns-in-Refuses : goal.returns-in-Refuses
-returns-in-Refuses c = sym (rule_turned _ _ _ _ c.if-mode-gt1.false _ (sym c.test-of_rule.ensures ∙ c.in-Refuses.is))
+pub returns-in_err-rule-clause-found : goal.returns-in_err-rule-clause-found
+returns-in_err-rule-clause-found c = let F = c.in_err-rule.ensures.err in
+    let p = err_from_is_err_and c.from_residual.result c.from_residual.ensures.1 in
+    rw (p.1, p.2, F.is) (sym (rule_turned _ _ _ _ (omega arith) _ F.first))
 
-pub returns-in-Refuses-of_flow : goal.returns-in-Refuses-of_flow
-returns-in-Refuses-of_flow c = sym (flow_turned _ _ _ _ c.if-mode-gt1.false (sym c.test-of_rule.ensures ∙ c.in_default.is) _ (sym c.test-of_flow.ensures ∙ c.in-Refuses-of_flow.is))
+pub returns-in_err-flow-clause-found : goal.returns-in_err-flow-clause-found
+returns-in_err-flow-clause-found c = let R = c.in_ok-rule.ensures.ok in
+    let F = c.in_err-flow.ensures.err in
+    let p = err_from_is_err_and c.from_residual-in_err-flow.result c.from_residual-in_err-flow.ensures.1 in
+    rw (p.1, p.2, F.is) (sym (flow_turned _ _ _ _ (omega arith) R.good _ F.first))
 
-pub get-requires : goal.get-requires
-get-requires c = omega (arith, (good _ (sym c.test-of_rule.ensures ∙ c.in_default.is)).long)
+pub returns-then-events-clause-found : goal.returns-then-events-clause-found
+returns-then-events-clause-found c = let R = c.in_ok-rule.ensures.ok in
+    let F = c.in_ok-flow.ensures.ok in
+    let r = c.events.ensures.events ∙ ap events R.bytes in
+    let f = c.events-2.ensures.events ∙ ap events F.bytes in
+    sym (events_turned _ _ _ _ (omega arith) R.good F.good (λ e. c.if-events.true (r ∙ e ∙ sym f)))
 
-pub get-requires-2 : goal.get-requires-2
-get-requires-2 c = omega (arith, (good _ (sym c.test-of_flow.ensures ∙ c.in_default-of_flow.is)).long)
+pub returns-then-states-gt64-clause-found : goal.returns-then-states-gt64-clause-found
+returns-then-states-gt64-clause-found c = let R = c.in_ok-rule.ensures.ok in
+    let F = c.in_ok-flow.ensures.ok in
+    let r = c.events.ensures.events ∙ ap events R.bytes in
+    let f = c.events-2.ensures.events ∙ ap events F.bytes in
+    let n = c.states.ensures.states ∙ ap states R.bytes in
+    sym (states_turned _ _ _ _ (omega arith) R.good F.good (sym r ∙ c.if-events.false ∙ f) (omega arith))
 
-pub returns-then-get : goal.returns-then-get
-returns-then-get c = sym (events_turned _ _ _ _ c.if-mode-gt1.false (sym c.test-of_rule.ensures ∙ c.in_default.is) (sym c.test-of_flow.ensures ∙ c.in_default-of_flow.is) (λ e. c.if-get.true (c.get.ensures.0 ∙ e ∙ sym c.get-2.ensures.0)))
+pub returns-then-short-clause-found : goal.returns-then-short-clause-found
+returns-then-short-clause-found c = let R = c.in_ok-rule.ensures.ok in
+    let F = c.in_ok-flow.ensures.ok in
+    let r = c.events.ensures.events ∙ ap events R.bytes in
+    let f = c.events-2.ensures.events ∙ ap events F.bytes in
+    let n = c.states.ensures.states ∙ ap states R.bytes in
+    sym (short_turned _ _ _ _ (omega arith) R.good F.good (sym r ∙ c.if-events.false ∙ f) (omega arith) c.if-short.true)
 
-pub get-requires-3 : goal.get-requires-3
-get-requires-3 c = omega (arith, (good _ (sym c.test-of_rule.ensures ∙ c.in_default.is)).long)
-
-pub returns-then-get-gt64 : goal.returns-then-get-gt64
-returns-then-get-gt64 c = sym (states_turned _ _ _ _ c.if-mode-gt1.false (sym c.test-of_rule.ensures ∙ c.in_default.is) (sym c.test-of_flow.ensures ∙ c.in_default-of_flow.is) (sym c.get.ensures.0 ∙ c.if-get.false ∙ c.get-2.ensures.0) (omega (arith, c.if-get-gt64.true, c.get-3.ensures.0)))
-
-pub returns-then-short : goal.returns-then-short
-returns-then-short c = sym (short_turned _ _ _ _ c.if-mode-gt1.false (sym c.test-of_rule.ensures ∙ c.in_default.is) (sym c.test-of_flow.ensures ∙ c.in_default-of_flow.is) (sym c.get.ensures.0 ∙ c.if-get.false ∙ c.get-2.ensures.0) (omega (arith, c.if-get-gt64.false, c.get-3.ensures.0)) c.if-short.true)
-
-pub returns : goal.returns
-returns c = sym (none_turned _ _ _ _ c.if-mode-gt1.false (sym c.test-of_rule.ensures ∙ c.in_default.is) (sym c.test-of_flow.ensures ∙ c.in_default-of_flow.is) (sym c.get.ensures.0 ∙ c.if-get.false ∙ c.get-2.ensures.0) (omega (arith, c.if-get-gt64.false, c.get-3.ensures.0)) c.if-short.false)
+pub returns-clause-found : goal.returns-clause-found
+returns-clause-found c = let R = c.in_ok-rule.ensures.ok in
+    let F = c.in_ok-flow.ensures.ok in
+    let r = c.events.ensures.events ∙ ap events R.bytes in
+    let f = c.events-2.ensures.events ∙ ap events F.bytes in
+    let n = c.states.ensures.states ∙ ap states R.bytes in
+    sym (none_turned _ _ _ _ (omega arith) R.good F.good (sym r ∙ c.if-events.false ∙ f) (omega arith) c.if-short.false)
