@@ -1,4 +1,4 @@
-use Rattle.std.proofs.Common.{◌≡◌, sym, ap, ◌∙◌}
+use Rattle.std.proofs.Common.{sym, ap, ◌∙◌}
 use Rattle.std.proofs.lemmas.Result.{err_from_is_err_and}
 use Rattle.tables.specs.Bytes.{states, events}
 use Rattle.refine.proofs.Tested.{mode_turned, rule_turned, flow_turned, events_turned, states_turned, short_turned, none_turned}
