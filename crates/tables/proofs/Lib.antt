@@ -5,7 +5,6 @@ pub mod Splice
 pub mod Coded
 pub mod Rows
 pub mod Tested
-pub mod Looking
 pub mod Order
 pub mod Seeking
 pub mod PartOf

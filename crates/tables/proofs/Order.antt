@@ -13,7 +13,8 @@ use Rattle.csp.specs.Table.{Move}
 use Rattle.tables.specs.Valid.{precedes, disordered}
 use Rattle.tables.specs.Order.{Before, by_from, by_event, by_to, Ascending, none, more}
 use Rattle.tables.specs.Bytes.{row}
-use Rattle.tables.proofs.Some.{some-none, some_false}
+use Rattle.tables.specs.Tests.{some}
+use Rattle.tables.proofs.Some.{some-none, some_false, some_here, some_next}
 use Rattle.tables.proofs.Rows.{in_row, of_row}
 
 cond_cases : (t a b : Bool) → cond t a b ≡ true → ((t ≡ true) × (a ≡ true)) ⊎ ((t ≡ false) × (b ≡ true))
@@ -44,6 +45,22 @@ precedes_event a b e n = rw (eq-eqb a.from b.from e, ne_eqb a.event b.event n) r
 pub precedes_to : (a b : Move) → a.from ≡ b.from → a.event ≡ b.event → ltb a.to b.to ≡ precedes a b
 unfolding precedes
 precedes_to a b e f = rw (eq-eqb a.from b.from e, eq-eqb a.event b.event f) refl
+
+-- 6 of a row, one move after the other: `test` compares move j with the one before
+module _ (at : ℕ → Move) (j : ℕ) (h : 1 ≤ j) where
+  pair : (b : Bool) → precedes (at (j - 1)) (at j) ≡ b → not (precedes (at (j - 1)) (at (j - 1 + 1))) ≡ not b
+  pair b k = let e : j - 1 + 1 ≡ j = omega arith in rw e (ap not k)
+
+  pub ordered_next : disordered at j ≡ false → precedes (at (j - 1)) (at j) ≡ true → disordered at (j + 1) ≡ false
+  unfolding disordered
+  ordered_next d k =
+      let f : ℕ → Bool = λ i. not (precedes (at i) (at (i + 1))) in
+      let e : j + 1 - 1 ≡ j - 1 + 1 = omega arith in
+      ap (some f) e ∙ some_next f (j - 1) d (pair true k)
+
+  pub swapped : (m : ℕ) → j < m → precedes (at (j - 1)) (at j) ≡ false → disordered at m ≡ true
+  unfolding disordered
+  swapped m l k = some_here (λ i. not (precedes (at i) (at (i + 1)))) (m - 1) (j - 1) (omega arith) (pair false k)
 
 pub before_test : {a b : Move} → Before a b → precedes a b ≡ true
 before_test {a} {b} (by_from h) = sym (precedes_from a b (λ e. omega arith)) ∙ lt-ltb _ _ h

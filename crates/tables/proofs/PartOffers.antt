@@ -1,12 +1,20 @@
 -- The offers and the stability that a part shows are those of its state.
 use Rattle.std.specs.Prelude.{None}
-use Prim.Native.Nat.{ℕ, ◌<◌, ◌+◌}
+use Prim.Native.Nat.{ℕ, zero, suc, ◌<◌, ◌+◌}
+use mathlib.Core.Bool.{Bool, true, false, not}
 use mathlib.Core.Path.{◌≡◌, refl, sym, ap, ◌∙◌, subst}
 use mathlib.Core.Logic.{◌⊎◌, inl, inr, ⊎_elim, ◌↔◌}
 use mathlib.Core.List.Memᴰ
 use mathlib.Core.List.{List, [], ◌∷◌, ◌++◌, Memᴰ}
 use native.Mathlib.Omega.{arith}
 use native.Mathlib.Numerals.{add-one}
+use native.Mathlib.Nat.{zero-add}
+use lib.ListN.{get_or}
+use lib.Dec.{eqb}
+use borrow.Author.Tests.{eq-eqb, ne_eqb}
+use Rattle.std.specs.List.{list_all, range_with_len}
+use Rattle.std.proofs.lemmas.List.FromFn.{length-range_with_len, get_or-range_with_len}
+use Rattle.std.proofs.lemmas.List.Folds.{list_all_at}
 use Rattle.sets.specs.Sets.{Has, Holds}
 use Rattle.sets.proofs.Laws.{none_in_zero}
 use Rattle.csp.specs.Lts.{Offers, Stable}
@@ -15,7 +23,7 @@ use Rattle.tables.specs.Bytes.{row, table_of, moves_in}
 use Rattle.tables.specs.Valid.{refusal}
 use Rattle.tables.specs.State.{moves_of}
 use Rattle.tables.specs.Offers.{Visible, Still, SmallEvents}
-use Rattle.tables.proofs.Rows.{same_move, of_row}
+use Rattle.tables.proofs.Rows.{same_move, in_row, of_row}
 use Rattle.tables.proofs.Proper.{proper}
 use Rattle.tables.proofs.PartMoves.{part_sound, part_all}
 
@@ -41,13 +49,29 @@ module _ (at : ℕ → Move) where
       down x (inl g) = let v = h.only x g in record { seen = v.seen; one = v.one; among = Memᴰ.append_left (at i ∷ []) v.among; by = v.by }
       down x (inr g) = record { seen = g.0; one = at i; among = Memᴰ.append_right (row at i) (Memᴰ.head refl); by = sym f ∙ sym g.1 }
 
-  -- none of the first m moves is silent
-  pub still_row : (m : ℕ) → ((j : ℕ) → j < m → 0 < (at j).event) → Still (row at m)
-  still_row m h v i z =
+  -- is_stable asks of each of the first m moves whether it is not silent
+  unfoldable pub heard : ℕ → Bool
+  heard j = not (eqb (at j).event 0)
+
+  pub still_all : (m : ℕ) → list_all heard (range_with_len 0 m) ≡ true → Still (row at m)
+  unfolding heard
+  still_all m h v i z =
       let s = of_row at m v i in
-      let e : (at s.number).event ≡ v.event = ap (λ (w : Move). w.event) s.is in
-      let k = h s.number s.below in
-      omega arith
+      let e : (at s.number).event ≡ 0 = ap (λ (w : Move). w.event) s.is ∙ z in
+      let k : get_or (range_with_len 0 m) s.number 0 ≡ s.number = get_or-range_with_len 0 m s.number 0 s.below ∙ zero-add s.number in
+      let f : list_all heard (range_with_len 0 m) ≡ false =
+      list_all_at heard (range_with_len 0 m) s.number 0 (omega (arith, length-range_with_len 0 m, s.below)) (ap heard k ∙ ap not (eq-eqb _ _ e)) in
+      absurd (let w : ◌≡◌ {A = ℕ} 0 1 = cc in omega arith)
+
+  all_in : (f : ℕ → Bool) (a n : ℕ) → ((j : ℕ) → j < n → f (a + j) ≡ true) → list_all f (range_with_len a n) ≡ true
+  all_in f a zero h = refl
+  all_in f a (suc n) h =
+      let e : f a ≡ true = let d : a ≡ a + 0 = omega arith in ap f d ∙ h 0 (omega arith) in
+      simp (e, all_in f (a + 1) n (λ j k. let d : a + 1 + j ≡ a + suc j = omega arith in ap f d ∙ h (suc j) (omega arith)))
+
+  pub all_still : (m : ℕ) → Still (row at m) → list_all heard (range_with_len 0 m) ≡ true
+  unfolding heard
+  all_still m h = all_in heard 0 m (λ j k. ap heard (zero-add j) ∙ ap not (ne_eqb _ _ (λ z. h (at j) (in_row at m j k) z)))
 
 module _ (t : List ℕ) (c : refusal t ≡ None) (s : ℕ) where
   from_part : (v : Move) → Memᴰ v (moves_in (moves_of t s)) → (lts (table_of t)).move s v.event v.to

@@ -13,7 +13,6 @@ use Rattle.tables.specs.Bytes.{states, events, start, count}
 use Rattle.tables.specs.Valid.{refusal}
 use Rattle.tables.specs.Reader.{list_of, Given, reads, ReadCall}
 use Rattle.tables.specs.declared.answer.Refusal.TheVariants.{Rule, Call}
-use Rattle.tables.specs.Looking.{Headed}
 use Rattle.tables.specs.Answers.{refused, table, rule, call, head}
 use Rattle.tables.proofs.Coded.{length-numbers}
 use Rattle.tables.proofs.Tested.{Good, good}
@@ -55,12 +54,12 @@ module _ (t old : List ℕ) where
         record { answer = ap (λ (x : Given). x.says) (sym w); list = ap (λ (x : Given). x.list) (sym w); bytes = b }
 
     pub call_done : (n E s m : ℕ) (new : List ℕ) → refusal t ≡ None → 3 * count t ≤ length old →
-        Headed t n E s m → new ≡ numbers (drop 12 t) ++ drop (length (drop 12 t) / 2) old →
+        n ≡ states t → E ≡ events t → s ≡ start t → m ≡ count t → new ≡ numbers (drop 12 t) ++ drop (length (drop 12 t) / 2) old →
         ReadCall t old (Ok (head n E s m)) new
-    call_done n E s m new h k g e =
+    call_done n E s m new h k p q r z e =
         let w = read_done h k in
         record {
-          answer = rw (g.states, g.events, g.start, g.count) (ap (λ (x : Given). x.says) (sym w));
+          answer = rw (p, q, r, z) (ap (λ (x : Given). x.says) (sym w));
           list = e ∙ ap (λ (i : ℕ). list_of t ++ drop i old) (sym (length-numbers (drop 12 t))) ∙ ap (λ (x : Given). x.list) (sym w);
           bytes = b;
         }

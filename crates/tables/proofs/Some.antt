@@ -1,15 +1,20 @@
 -- Laws of "or" and `some`: what holds of none.
-use Prim.Native.Nat.{ℕ, zero, suc, ◌<◌, ◌≤◌}
+use Prim.Native.Nat.{ℕ, zero, suc, ◌<◌, ◌≤◌, ◌+◌}
 use mathlib.Core.Bool.{Bool, true, false, ◌||◌}
-use mathlib.Core.Path.{◌≡◌, refl, ap, ◌∙◌}
+use mathlib.Core.Path.{◌≡◌, refl, sym, ap, ◌∙◌}
 use mathlib.Core.Logic.{⊎_elim}
 use native.Mathlib.Omega.{arith}
+use native.Mathlib.Numerals.{add-one}
 use native.Mathlib.Nat.{eq-or-lt_of_le}
 use Rattle.tables.specs.Tests.{some}
 
 pub or_false : (a b : Bool) → (a || b) ≡ false → (a ≡ false) × (b ≡ false)
 or_false true b e = absurd (let z : ◌≡◌ {A = ℕ} 0 1 = cc in omega arith)
 or_false false b e = (refl, e)
+
+or-true : (a b : Bool) → b ≡ true → (a || b) ≡ true
+or-true true b e = refl
+or-true false b e = e
 
 -- where it holds of none, it does not hold of one
 pub some-none : (f : ℕ → Bool) (n i : ℕ) → some f n ≡ false → i < n → f i ≡ false
@@ -25,3 +30,20 @@ pub some_false : (f : ℕ → Bool) (n : ℕ) → ((i : ℕ) → i < n → f i �
 unfolding some
 some_false f zero h = refl
 some_false f (suc n) h = simp (some_false f n (λ i l. h i (omega arith)), h n (omega arith))
+
+-- where it holds of one, it holds of some
+pub some_here : (f : ℕ → Bool) (n i : ℕ) → i < n → f i ≡ true → some f n ≡ true
+unfolding some
+some_here f zero i l h = absurd (omega arith)
+some_here f (suc n) i l h =
+    let le : i ≤ n = omega arith in
+    ⊎_elim (λ e. or-true (some f n) (f n) (ap f (sym e) ∙ h)) (λ k. simp (some_here f n i k h)) (eq-or-lt_of_le le)
+
+-- one number more, of which it does not hold
+pub some_next : (f : ℕ → Bool) (n : ℕ) → some f n ≡ false → f n ≡ false → some f (n + 1) ≡ false
+unfolding some
+some_next f n h k = rw add-one (simp (h, k))
+
+-- of none of fewer numbers
+pub some_fewer : (f : ℕ → Bool) {m : ℕ} (n : ℕ) → some f n ≡ false → m ≤ n → some f m ≡ false
+some_fewer f n h l = some_false f _ (λ i k. some-none f n i h (omega arith))

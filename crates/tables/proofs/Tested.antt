@@ -7,12 +7,11 @@ use mathlib.Core.List.{List}
 use native.Mathlib.Omega.{arith}
 use lib.ListN.{length}
 use lib.Dec.{ltb, eqb}
-use borrow.Author.Tests.{ltb-false, leb-false, eqb-true, not-false, lt-ltb, le-ltb, lt-leb, eq-eqb}
+use borrow.Author.Tests.{ltb-false, leb-false, eqb-true, not-false, le-ltb, lt-leb, le-leb, eq-eqb}
 use Rattle.tables.specs.Numbers.{num}
 use Rattle.tables.specs.Tests.{when}
 use Rattle.csp.specs.Table.{Move}
 use Rattle.tables.specs.Bytes.{states, events, start, count, move_of}
-use Rattle.tables.specs.Looking.{Headed}
 use Rattle.tables.proofs.Some.{or_false}
 use Rattle.tables.specs.Valid.{few_bytes, outside, misframed, astray, misnamed, disordered, circling, later_tests, refusal}
 
@@ -75,6 +74,24 @@ pub sound_clear : (n E s : ℕ) (at : ℕ → Move) (m : ℕ) → Sound n E s at
 unfolding later_tests
 sound_clear n E s at m g = simp (lt-leb _ _ g.starts, g.named, g.ascending, g.no_circle)
 
+-- the first of 4 to 7 that applies
+module _ (n E s : ℕ) (at : ℕ → Move) (m : ℕ) where
+  pub later_4 : n ≤ s → Some 4 ≡ later_tests n E s at m
+  unfolding later_tests
+  later_4 h = simp (le-leb _ _ h)
+
+  pub later_5 : s < n → misnamed n E at m ≡ true → Some 5 ≡ later_tests n E s at m
+  unfolding later_tests
+  later_5 h a = simp (lt-leb _ _ h, a)
+
+  pub later_6 : s < n → misnamed n E at m ≡ false → disordered at m ≡ true → Some 6 ≡ later_tests n E s at m
+  unfolding later_tests
+  later_6 h a b = simp (lt-leb _ _ h, a, b)
+
+  pub later_7 : s < n → misnamed n E at m ≡ false → disordered at m ≡ false → circling at m ≡ true → Some 7 ≡ later_tests n E s at m
+  unfolding later_tests
+  later_7 h a b d = simp (lt-leb _ _ h, a, b, d)
+
 -- a table that no test refuses
 pub record Good (t : List ℕ) : Type 0 where
   pub long : 12 ≤ length t
@@ -112,28 +129,3 @@ good_clear t g =
       framed_clear t _ g.frame,
       sound_clear _ _ _ _ _ g.moves,
     )
-
--- what the tests say of a table, one after the other
-pub refused_1 : (t : List ℕ) → length t < 12 → Some 1 ≡ refusal t
-unfolding refusal
-refused_1 t h = simp (lt-ltb _ _ h)
-
-module _ (t : List ℕ) (n E s m : ℕ) (h : Headed t n E s m) where
-  within_is : (b : Bool) → outside n E m ≡ b → outside (states t) (events t) (count t) ≡ b
-  within_is b a = rw (h.states, h.events, h.count) at a
-
-  framed_is : (b : Bool) → misframed t m ≡ b → misframed t (count t) ≡ b
-  framed_is b a = rw h.count at a
-
-  pub refused_2 : outside n E m ≡ true → Some 2 ≡ refusal t
-  unfolding refusal
-  refused_2 a = simp (le-ltb _ _ h.long, within_is true a)
-
-  pub refused_3 : outside n E m ≡ false → misframed t m ≡ true → Some 3 ≡ refusal t
-  unfolding refusal
-  refused_3 a b = simp (le-ltb _ _ h.long, within_is false a, framed_is true b)
-
-  pub refused_later : outside n E m ≡ false → misframed t m ≡ false → later_tests n E s (move_of t) m ≡ refusal t
-  unfolding refusal
-  refused_later a b =
-      rw (h.states, h.events, h.start, h.count) (simp (le-ltb _ _ h.long, within_is false a, framed_is false b))

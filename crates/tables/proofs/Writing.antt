@@ -1,19 +1,19 @@
 -- What the writer does, case by case.
 use Rattle.std.specs.Prelude.{None, Some, Ok, Err}
 use Prim.Native.Nat.{ℕ, ◌<◌, ◌≤◌, ◌+◌, ◌*◌, ◌/◌, ◌%◌}
-use mathlib.Core.Bool.{true, false}
+use mathlib.Core.Bool.{false}
 use mathlib.Core.Path.{◌≡◌, sym, ap, ◌∙◌}
 use mathlib.Core.List.{List, ◌++◌}
 use native.Mathlib.Omega.{arith}
 use lib.ListN.{length, take, drop}
 use lib.Seq.{drop-drop, take_all}
 use lib.Dec.{ltb}
-use borrow.Author.Tests.{lt-ltb, le-ltb, eqb-true, not-false, eq-eqb, ne_eqb}
+use borrow.Author.Tests.{lt-ltb, le-ltb, eqb-true, not-false, eq-eqb}
 use Rattle.csp.specs.Table.{Table}
 use Rattle.tables.specs.Numbers.{bytes, over}
 use Rattle.tables.specs.Moves.{listed}
 use Rattle.tables.specs.Bytes.{row, threes, header, encoded}
-use Rattle.tables.specs.Valid.{outside, later_tests}
+use Rattle.tables.specs.Valid.{outside}
 use Rattle.tables.specs.Writer.{not_in_threes, list_refusal, table_from, Written, writes, WriteCall}
 use Rattle.tables.specs.declared.answer.Refusal.TheVariants.{Rule, Call}
 use Rattle.tables.specs.Answers.{refused, wrote, rule, call}
@@ -42,20 +42,6 @@ pub sayable_clear : (n E s : ℕ) (l : List ℕ) → Sayable n E s l → list_re
 unfolding list_refusal
 sayable_clear n E s l g =
     simp (within_clear _ _ _ g.limits, eq-eqb _ _ g.threes, sound_clear _ _ _ _ _ g.moves)
-
-module _ (n E s : ℕ) (l : List ℕ) where
-  pub unsayable_2 : outside n E (length l / 3) ≡ true → Some 2 ≡ list_refusal n E s l
-  unfolding list_refusal
-  unsayable_2 a = simp a
-
-  pub unsayable_3 : outside n E (length l / 3) ≡ false → (length l % 3 ≡ 0 → ⊥) → Some 3 ≡ list_refusal n E s l
-  unfolding list_refusal
-  unsayable_3 a b = simp (a, ne_eqb _ _ b)
-
-  pub unsayable_later : outside n E (length l / 3) ≡ false → length l % 3 ≡ 0 →
-      later_tests n E s (listed l) (length l / 3) ≡ list_refusal n E s l
-  unfolding list_refusal
-  unsayable_later a b = simp (a, eq-eqb _ _ b)
 
 pub length-encoded : (t : Table) → length (encoded t) ≡ 12 + 6 * length t.moves
 unfolding encoded bytes

@@ -13,7 +13,6 @@ pub mod State
 -- No promise rests on what follows: the first is for laws, the others for inner functions.
 pub mod Order
 pub mod Offers
-pub mod Looking
 pub mod Seek
 pub mod Putting
 pub mod Held

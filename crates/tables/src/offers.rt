@@ -1,6 +1,7 @@
 // The offers and the stability of one state, from its part.
-ghost use Rattle.std.specs.Prelude.{◌≡◌, true, ◌⊎◌, ◌<◌};
+ghost use Rattle.std.specs.Prelude.{◌≡◌, true, ◌⊎◌, ◌+◌, ◌*◌, ◌<◌, length};
 ghost use Rattle.sets.specs.Sets.{Has, Holds};
+ghost use Rattle.tables.specs.Moves.{move_at};
 ghost use Rattle.tables.specs.Bytes.{moves_in};
 ghost use Rattle.tables.specs.Offers.{Visible, Still, SmallEvents};
 
@@ -18,17 +19,23 @@ fn with_visible(set: u64, e: usize) -> u64
     sets::with(set, e)
 }
 
+// The event of move j of a part.
+#[tactic(auto, unfolding(crate::specs::Moves::move_at))]
+fn event_at(part: &[u8], j: usize) -> usize
+    requires { 6 * j + 5 < length part.now }
+    ensures { result ≡ (move_at part.now j).event }
+{
+    get(part, 6 * j + 2)
+}
+
 // The visible events of a part's moves.
 pub fn offers_of(part: &[u8]) -> u64
     requires { SmallEvents (moves_in part.now) }
     ensures { Holds Has result (Visible (moves_in part.now)) }
 {
-    let m = part.len() / 6;
     let mut set = 0;
-    let mut i = 0;
-    while i < m {
-        set = with_visible(set, get(part, 6 * i + 2));
-        i += 1;
+    for j in 0..part.len() / 6 {
+        set = with_visible(set, event_at(part, j));
     }
     set
 }
@@ -37,13 +44,5 @@ pub fn offers_of(part: &[u8]) -> u64
 pub fn is_stable(part: &[u8]) -> bool
     ensures { (result ≡ true → Still (moves_in part.now)) × (Still (moves_in part.now) → result ≡ true) }
 {
-    let m = part.len() / 6;
-    let mut i = 0;
-    while i < m {
-        if get(part, 6 * i + 2) == 0 {
-            return false;
-        }
-        i += 1;
-    }
-    true
+    (0..part.len() / 6).all(|j| event_at(part, j) != 0)
 }

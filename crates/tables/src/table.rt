@@ -1,5 +1,6 @@
 // A good table, lent: whoever holds one need not test its bytes again.
 ghost use Rattle.std.specs.Prelude.{◌≡◌, ◌<◌, ◌≤◌, ◌*◌, length, drop, None};
+ghost use Rattle.tables.specs.Numbers.{num};
 ghost use Rattle.tables.specs.Bytes.{states, events, start, count};
 ghost use Rattle.tables.specs.Valid.{refusal};
 
@@ -60,12 +61,21 @@ impl<'a> Table<'a> {
         self.bytes
     }
 
+    // The number at byte `at` of the header.
+    fn number(&self, at: usize) -> usize
+        requires { at < 11 }
+        ensures number { result ≡ num self.now at }
+        ensures good { refusal self.now ≡ None }
+    {
+        get(self.bytes, at)
+    }
+
     // How many states it has.
     pub fn states(&self) -> usize
         ensures states { result ≡ states self.now }
         ensures good { refusal self.now ≡ None }
     {
-        get(self.bytes, 0)
+        self.number(0)
     }
 
     // E: its visible events are 1 to this.
@@ -73,14 +83,14 @@ impl<'a> Table<'a> {
         ensures events { result ≡ events self.now }
         ensures good { refusal self.now ≡ None }
     {
-        get(self.bytes, 2)
+        self.number(2)
     }
 
     pub fn start(&self) -> usize
         ensures start { result ≡ start self.now }
         ensures good { refusal self.now ≡ None }
     {
-        get(self.bytes, 4)
+        self.number(4)
     }
 
     // How many moves it has.
@@ -88,7 +98,7 @@ impl<'a> Table<'a> {
         ensures count { result ≡ count self.now }
         ensures good { refusal self.now ≡ None }
     {
-        get(self.bytes, 6)
+        self.number(6)
     }
 
     // The part that its moves stand in, from byte 12 on.

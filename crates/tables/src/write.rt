@@ -15,8 +15,7 @@ pub fn put_header(n: u16, e: u16, start: u16, m: u16, out: &mut [u8])
     requires { 12 ≤ length out.old }
     ensures { out.new ≡ header n e start m ++ drop 12 out.old }
 {
-    let numbers = [n, e, start, m, 12, 0];
-    put_all(out, &numbers);
+    put_all(out, &[n, e, start, m, 12, 0]);
 }
 
 // Puts a move at byte `at` of the part that is lent for moves.
@@ -25,8 +24,7 @@ pub fn put_move(ms: &mut [u8], at: usize, from: usize, event: usize, to: usize)
     requires numbers_fit { (from < 65536) × ((event < 65536) × (to < 65536)) }
     ensures { ms.new ≡ into at (move_bytes (move from event to ∷ [])) ms.old }
 {
-    let three = [from as u16, event as u16, to as u16];
-    put_all(&mut ms[at..], &three);
+    put_all(&mut ms[at..], &[from as u16, event as u16, to as u16]);
 }
 
 // Puts the header, and the moves into the rest of the buffer.

@@ -1,28 +1,19 @@
-use Prim.Native.Nat.{ℕ, ◌/◌}
-use mathlib.Core.Path.{◌≡◌, refl}
+use Prim.Native.Nat.{◌/◌}
+use mathlib.Core.Path.{◌≡◌, refl, sym, ◌∙◌}
 use native.Mathlib.Omega.{arith}
 use lib.ListN.{length}
-use borrow.Author.Count.{below_more}
+use Rattle.std.proofs.Common.{rules}
+use Rattle.std.proofs.lemmas.Iterator.{YieldsList-from_range}
+use Rattle.std.proofs.lemmas.Iterator.Search.{all_from_yields_List}
+use Rattle.std.specs.List.{list_all, range_with_len}
 use Rattle.tables.specs.Moves.{move_at}
-use Rattle.tables.proofs.Rows.{in_row}
-use Rattle.tables.proofs.PartOffers.{still_row}
+use Rattle.tables.proofs.PartOffers.{heard, still_all, all_still}
 use Rattle.tables.proofs.offers.is_stable.Goals as goal
 
-pub loop-i-init : goal.loop-i-init
-loop-i-init c = (omega arith, λ j a. omega arith)
-
-pub returns-then-get-eq0 : goal.returns-then-get-eq0
-unfolding move_at
-returns-then-get-eq0 c = let p = c.args.part.now in
-    let l = c.loop-i in
-    let z : (move_at p l.i).event ≡ 0 = omega (arith, c.get.ensures.0) in
-    (λ e. absurd (let w : ◌≡◌ {A = ℕ} 0 1 = cc in omega arith), λ h. absurd (h _ (in_row (move_at p) (length p / 6) l.i (omega arith)) z))
-
-pub loop-i-preserved : goal.loop-i-preserved
-unfolding move_at
-loop-i-preserved c = (omega arith, below_more _ _ c.loop-i.invariant.1 (omega (arith, c.get.ensures.0)))
-
 pub returns : goal.returns
-returns c = let p = c.args.part.now in
-    let l = c.loop-i in
-    (λ e. still_row (move_at p) (length p / 6) (λ j h. l.invariant.1 j (omega arith)), λ h. refl)
+unfolding heard
+returns c = let at = move_at c.args.part.now in
+    let m = length c.args.part.now / 6 in
+    let r : c.all.result ≡ list_all (heard at) (range_with_len 0 m) =
+    all_from_yields_List (heard at) _ _ c.all.result c.all.ensures.ran (YieldsList-from_range 0 m m refl (omega arith)) (λ x b q k. search rules) in
+    (λ e. still_all at m (sym r ∙ e), λ h. r ∙ all_still at m h)

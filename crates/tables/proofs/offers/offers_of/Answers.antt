@@ -7,23 +7,18 @@ use Rattle.tables.proofs.Rows.{in_row}
 use Rattle.tables.proofs.PartOffers.{visible_none, visible_next}
 use Rattle.tables.proofs.offers.offers_of.Goals as goal
 
-pub loop-i-init : goal.loop-i-init
-loop-i-init c = (omega arith, visible_none (move_at _))
+pub loop-j-init : goal.loop-j-init
+loop-j-init c = visible_none (move_at _)
 
 pub with_visible-set-requires : goal.with_visible-set-requires
-unfolding move_at
 with_visible-set-requires c = let p = c.args.part.now in
-    let i = c.loop-i.i in
-    omega (arith, c.get.ensures.0, c.requires (move_at p i) (in_row (move_at p) (length p / 6) i (omega arith)))
+    omega (arith, c.requires (move_at p c.loop-j.j) (in_row (move_at p) (length p / 6) c.loop-j.j (omega arith)))
 
-pub loop-i-preserved : goal.loop-i-preserved
-unfolding move_at
-loop-i-preserved c = let l = c.loop-i in
-    let p = c.args.part.now in
-    (omega arith, visible_next (move_at p) l.i _ _ _ c.get.ensures.0 l.invariant.1 c.with_visible-set.ensures)
+pub loop-j-preserved : goal.loop-j-preserved
+loop-j-preserved c = let l = c.loop-j in
+    visible_next (move_at c.args.part.now) l.j _ _ _ c.event_at.ensures l.invariant c.with_visible-set.ensures
 
 pub returns : goal.returns
-returns c = let l = c.loop-i in
-    let p = c.args.part.now in
-    let e : l.i ≡ length p / 6 = omega arith in
-    rw e at l.invariant.1
+returns c = let l = c.loop-j in
+    let e : l.j ≡ length c.args.part.now / 6 = omega arith in
+    rw e at l.invariant

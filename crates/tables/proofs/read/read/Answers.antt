@@ -42,12 +42,8 @@ returns c = let h = c.in_ok-table.ensures.ok in
     (λ i. omega (arith, c.type_inv.t i))
     _ _ _ _ _ h.good
     (omega (arith, m))
-    (record {
-      long = (good t h.good).long;
-      states = c.get16.ensures;
-      events = c.get16-2.ensures;
-      start = c.get16-3.ensures;
-      count = m;
-      small = omega (arith, m, (good t h.good).limits.moves);
-    })
+    c.get16.ensures
+    c.get16-2.ensures
+    c.get16-3.ensures
+    m
     (c.give.ensures ∙ ap (λ (x : List ℕ). numbers x ++ drop (length x / 2) c.args.list.now) (rw h.bytes at c.moves.ensures.part))
