@@ -3,7 +3,7 @@ use Prim.Native.Nat.{ℕ, ◌<◌, ◌≤◌}
 use mathlib.Core.Path.{◌≡◌, sym, ◌∙◌, subst}
 use mathlib.Core.Bool.{Bool, true, false, true≢false}
 use mathlib.Core.Logic.{◌≢◌}
-use Rattle.std.proofs.Common.{Option, Some, None}
+use Rattle.std.proofs.Common.{Option, Some, None, Result, Ok, Err}
 use mathlib.Core.List.{List}
 use native.Mathlib.Omega.{arith}
 use lib.Dec.{ltb}
@@ -12,6 +12,7 @@ use Rattle.csp.specs.Table.{Table}
 use Rattle.csp.specs.Watchdog.{Watches}
 use Rattle.tables.specs.Bytes.{states, events, table_of, encoded}
 use Rattle.tables.specs.Rule.{has_many_states, ManyNodes}
+use Rattle.tables.specs.Held.{Held}
 use Rattle.tables.specs.Answers.{Says, refused, rule, whose, number_of}
 use Rattle.tables.specs.declared.answer.Refusal.{Refusal}
 use Rattle.tables.proofs.Encoded.{denotes, encoded_clear, encoded-bytes}
@@ -24,8 +25,6 @@ use Rattle.watchdog.specs.Asking as asking
 use Rattle.watchdog.specs.Asking.{AllEvents, Made, Unless, refuses, passes, Puts, Writes, table}
 use Rattle.watchdog.specs.Rows.{watch_table}
 use Rattle.watchdog.specs.Tests.{Tested, no_table, many_states, all_events, short_work, passed, Answers}
-use Rattle.watchdog.specs.declared.ask.Early.{Early}
-use Rattle.watchdog.specs.declared.ask.Early.TheVariants as early
 use Rattle.watchdog.proofs.Watched.{table_watches, table_proper}
 
 few_states : (asked : List ℕ) → AsRule asked → has_many_states asked ≡ true → ⊥
@@ -34,9 +33,13 @@ few_states asked r h = omega (arith, r.small, ltb-true 64 (states asked) h)
 pub many : (n m : ℕ) → n ≡ m → 64 < n → ltb 64 m ≡ true
 many n m e h = lt-ltb 64 m (omega arith)
 
+-- bytes taken as a table, of few states
+pub as_rule : {asked t : List ℕ} {n : ℕ} → Held asked t → n ≡ states asked → n ≤ 64 → AsRule asked
+as_rule h e l = record { clear = h.good; small = omega arith }
+
 module _ (asked : List ℕ) (lacks : Bool) (old : List ℕ) where
   said :
-      {v w : Refusal} → early.Refused v ≡ early.Refused w → Answers asked lacks old (refused (whose v) (number_of v)) old →
+      {v w : Refusal} → ◌≡◌ {A = Result (List ℕ) Refusal} (Err v) (Err w) → Answers asked lacks old (refused (whose v) (number_of v)) old →
       Answers asked lacks old (refused (whose w) (number_of w)) old
   said {v} {w} e a =
       let q : v ≡ w = cc in
@@ -44,7 +47,7 @@ module _ (asked : List ℕ) (lacks : Bool) (old : List ℕ) where
 
   -- where a test refuses, the call is refused
   pub tested_refused :
-      {e : Early} (w : Refusal) → Tested asked lacks e → e ≡ early.Refused w →
+      {r : Result (List ℕ) Refusal} (w : Refusal) → Tested asked lacks r → r ≡ Err w →
       Answers asked lacks old (refused (whose w) (number_of w)) old
   tested_refused w (no_table h) q = said q (λ a b s. asking.no_table h)
   tested_refused w (many_states h k) q = said q (λ a b s. table h (refuses k))
@@ -59,12 +62,12 @@ module _ (asked : List ℕ) (lacks : Bool) (old : List ℕ) where
     pub spare : AllEvents asked → ⊥
     pub enough : lacks ≡ false
 
-  pub tested_clear : {e : Early} → Tested asked lacks e → e ≡ early.Clear → Passed
+  pub tested_clear : {r : Result (List ℕ) Refusal} {t : List ℕ} → Tested asked lacks r → r ≡ Ok t → Passed × (t ≡ asked)
   tested_clear (no_table h) q = absurd (cc)
   tested_clear (many_states h k) q = absurd (cc)
   tested_clear (all_events h k) q = absurd (cc)
   tested_clear (short_work h k l) q = absurd (cc)
-  tested_clear (passed h k l) q = record { good = h; spare = k; enough = l }
+  tested_clear (passed h k l) q = (record { good = h; spare = k; enough = l }, cc)
 
   past :
       Passed → {says : Says} {new : List ℕ} → Unless (ManyNodes asked) (refused rule 12) (Writes (table_of asked) old) old says new →

@@ -16,15 +16,14 @@ use Rattle.tables.specs.Numbers.{over}
 use Rattle.tables.specs.Bytes.{events, table_of}
 use Rattle.tables.specs.Valid.{refusal}
 use Rattle.tables.specs.Answers.{Says, refused, wrote}
-use Rattle.tables.specs.declared.answer.Test.TheVariants.{Clear}
-use Rattle.tables.specs.declared.answer.Built.TheVariants.{Wrote}
+use Rattle.std.proofs.Common.{None, Ok}
 use Rattle.tables.proofs.Proper.{fits}
 use Rattle.watchdog.specs.Asking.{Made, Unless, refuses, passes, Puts, no_room, put, Writes, Builds, no_table, table, WatchdogCall}
 
 -- what a call that wrote has left
 pub record Written (asked old : List ℕ) (n : ℕ) (new : List ℕ) : Type 0 where
   pub table : List ℕ
-  pub good : refusal asked ≡ Clear
+  pub good : refusal asked ≡ None
   pub made : Made (table_of asked) table
   pub size : length table ≡ n
   pub room : length table ≤ length old
@@ -42,7 +41,7 @@ module _ (asked work16 work64 old : List ℕ) (n : ℕ) where
   past e (refuses p) = absurd (cc)
   past e (passes q r) = r
 
-  writes_left : {s : Says} {x : List ℕ} → refusal asked ≡ Clear → Writes (table_of asked) old s x → s ≡ wrote n → Written asked old n x
+  writes_left : {s : Says} {x : List ℕ} → refusal asked ≡ None → Writes (table_of asked) old s x → s ≡ wrote n → Written asked old n x
   writes_left g w e =
       let p = puts_left w.puts e in
       record { table = w.table; good = g; made = w.made; size = p.0; room = p.1; left = p.2 }
@@ -52,12 +51,12 @@ module _ (asked work16 work64 old : List ℕ) (n : ℕ) where
   builds_left (table h r) e = writes_left h (past e (past e (past e (past e r)))) e
 
   pub call_left :
-      {left16 left64 new : List ℕ} → WatchdogCall asked work16 work64 old (Wrote n) left16 left64 new → Written asked old n new
+      {left16 left64 new : List ℕ} → WatchdogCall asked work16 work64 old (Ok n) left16 left64 new → Written asked old n new
   call_left c = builds_left c.builds refl
 
 -- The theorem, of the n bytes that a call wrote, joined as the first table or as the second.
 module _ (asked work16 work64 old : List ℕ) (n : ℕ) (left16 left64 new : List ℕ)
-    (c : WatchdogCall asked work16 work64 old (Wrote n) left16 left64 new) where
+    (c : WatchdogCall asked work16 work64 old (Ok n) left16 left64 new) where
   written : Written asked old n new
   written = call_left asked work16 work64 old n c
 

@@ -8,7 +8,8 @@ use Rattle.csp.specs.Watchdog.{Watches}
 use Rattle.csp.proofs.Unique.{form_unique}
 use Rattle.tables.specs.Bytes.{table_of}
 use Rattle.tables.specs.Answers.{Says, refused, rule, built_says}
-use Rattle.tables.specs.declared.answer.Built.{Built}
+use Rattle.tables.specs.declared.answer.Refusal.{Refusal}
+use Rattle.std.proofs.Common.{Result}
 use Rattle.tables.proofs.Same.{Alike, tables_same}
 use Rattle.tables.proofs.Unique.{built_one}
 use Rattle.watchdog.specs.Asking.{Made, Unless, refuses, passes, Puts, no_room, put, Writes, Builds, no_table, table, WatchdogCall}
@@ -70,14 +71,14 @@ builds_one s s' x x' (table h r) (no_table g) = absurd (cc)
 builds_one s s' x x' (table h r) (table g q) = unless_one (unless_one (unless_one (unless_one writes_one))) s s' x x' r q
 
 -- One answer, and one content of every lent buffer.
-pub record SameCall (a b : Built) (x16 y16 x64 y64 x y : List ℕ) : Type 0 where
+pub record SameCall (a b : Result ℕ Refusal) (x16 y16 x64 y64 x y : List ℕ) : Type 0 where
   pub answer : a ≡ b
   pub left16 : x16 ≡ y16
   pub left64 : x64 ≡ y64
   pub new : x ≡ y
 
 pub watchdog_unique :
-    (asked work16 work64 old : List ℕ) (a b : Built) (x16 y16 x64 y64 x y : List ℕ) →
+    (asked work16 work64 old : List ℕ) (a b : Result ℕ Refusal) (x16 y16 x64 y64 x y : List ℕ) →
     WatchdogCall asked work16 work64 old a x16 x64 x → WatchdogCall asked work16 work64 old b y16 y64 y →
     SameCall a b x16 y16 x64 y64 x y
 watchdog_unique asked work16 work64 old a b x16 y16 x64 y64 x y p q =

@@ -1,6 +1,6 @@
 -- What asking for the watchdog of a rule answers, and what the lent buffers hold then. asked is the rule, as bytes or as the
 -- table that they denote, and old is the result buffer as it was.
-use Rattle.std.specs.Prelude.{◌≡◌, true, List, ℕ, ◌≤◌, ◌<◌, length}
+use Rattle.std.specs.Prelude.{◌≡◌, true, List, ℕ, ◌≤◌, ◌<◌, length, None, Some, Result}
 use Rattle.csp.specs.Table.{Table}
 use Rattle.csp.specs.Normal.{NormalForm}
 use Rattle.csp.specs.Watchdog.{Watches}
@@ -9,8 +9,7 @@ use Rattle.tables.specs.Bytes.{events, table_of}
 use Rattle.tables.specs.Valid.{refusal}
 use Rattle.tables.specs.Rule.{has_many_states, ManyNodes}
 use Rattle.tables.specs.Answers.{Says, refused, wrote, rule, call, built_says}
-use Rattle.tables.specs.declared.answer.Test.TheVariants.{Clear, Refuses}
-use Rattle.tables.specs.declared.answer.Built.{Built}
+use Rattle.tables.specs.declared.answer.Refusal.{Refusal}
 use Rattle.workspace.specs.Workspace.{short, cleared}
 
 -- 19: "a watchdog is asked of a rule with E = 63"
@@ -23,7 +22,7 @@ pub record Made (asked : Table) (t : List ℕ) : Type 0 where
   pub nodes : List ℕ
   pub normal : NormalForm asked nodes
   pub bytes : AllBytes t
-  pub good : refusal t ≡ Clear
+  pub good : refusal t ≡ None
   pub watches : Watches asked nodes (table_of t)
 
 -- One of a row of tests: where it holds, the call is refused with what it says, and the buffer is untouched; else the rest
@@ -46,9 +45,9 @@ pub record Writes (asked : Table) (old : List ℕ) (says : Says) (new : List ℕ
 
 -- "Watchdog: the rule's 1 to 7, then 10, 19, 11, 12, 18."
 pub data Builds (asked work16 work64 old : List ℕ) : Says → List ℕ → Type 0 where
-  no_table : {k : ℕ} → refusal asked ≡ Refuses k → Builds asked work16 work64 old (refused rule k) old
+  no_table : {k : ℕ} → refusal asked ≡ Some k → Builds asked work16 work64 old (refused rule k) old
   table :
-      {says : Says} {new : List ℕ} → refusal asked ≡ Clear →
+      {says : Says} {new : List ℕ} → refusal asked ≡ None →
       Unless (has_many_states asked ≡ true) (refused rule 10)
       (Unless (AllEvents asked) (refused rule 19)
       (Unless (short work16 work64 ≡ true) (refused call 11)
@@ -59,7 +58,7 @@ pub data Builds (asked work16 work64 old : List ℕ) : Says → List ℕ → Typ
 -- What a call promises: the rule, both workspaces and the result buffer are as given, r is its answer, left16 and left64 are
 -- the workspaces after it, and new is the result buffer.
 -- "Check and watchdog clear both workspaces to zero over their whole length, refused or not, short or not."
-pub record WatchdogCall (asked work16 work64 old : List ℕ) (r : Built) (left16 left64 new : List ℕ) : Type 0 where
+pub record WatchdogCall (asked work16 work64 old : List ℕ) (r : Result ℕ Refusal) (left16 left64 new : List ℕ) : Type 0 where
   pub builds : Builds asked work16 work64 old (built_says r) new
   pub cleared16 : left16 ≡ cleared work16
   pub cleared64 : left64 ≡ cleared work64

@@ -1,38 +1,37 @@
-use native.Mathlib.Omega.{arith}
-use mathlib.Core.Path.{◌≡◌, sym, ◌∙◌}
-use Rattle.watchdog.specs.Tests.{no_table, many_states, all_events, short_work, passed}
-use Rattle.tables.specs.declared.answer.Test.TheVariants.{Refuses}
-use Rattle.tables.specs.Valid.{refusal}
-use Rattle.tables.proofs.Tested.{good}
-use Rattle.watchdog.proofs.Answering.{many}
+use Rattle.std.proofs.Common.{ℕ, List, Ok, sym, ap, ◌∙◌, subst}
+use Rattle.std.proofs.lemmas.Result.{err_from_is_err_and}
+use Rattle.tables.specs.Bytes.{states, events}
+use Rattle.watchdog.specs.Tests.{Tested, no_table, many_states, all_events, short_work, passed}
+use Rattle.watchdog.proofs.Answering.{many, as_rule}
 use Rattle.watchdog.proofs.ask.tested.Goals as goal
 
-pub returns-in-Refuses : goal.returns-in-Refuses
-returns-in-Refuses c = let h : refusal c.args.rule.now ≡ Refuses c.in-Refuses.k = cc in
-    no_table h
+pub returns-in_err-table : goal.returns-in_err-table
+returns-in_err-table c = let p = err_from_is_err_and c.from_residual.result c.from_residual.ensures.1 in
+    let F = c.in_err-table.ensures.err in
+    rw (p.1, p.2, F.is) (no_table F.first)
 
-pub get-requires : goal.get-requires
-get-requires c = omega (arith, (good _ (sym c.test-found.ensures ∙ c.in_default.is)).long)
+pub returns-then-states-gt64 : goal.returns-then-states-gt64
+returns-then-states-gt64 c = let R = c.in_ok-table.ensures.ok in
+    many_states R.good (many _ _ (c.states.ensures.states ∙ ap states R.bytes) c.if-states-gt64.true)
 
-pub returns-then-get-gt64 : goal.returns-then-get-gt64
-returns-then-get-gt64 c = many_states (sym c.test-found.ensures ∙ c.in_default.is) (many _ _ c.get.ensures.0 c.if-get-gt64.true)
-
-pub get-requires-2 : goal.get-requires-2
-get-requires-2 c = omega (arith, (good _ (sym c.test-found.ensures ∙ c.in_default.is)).long)
-
-pub returns-then-get-eq63 : goal.returns-then-get-eq63
-returns-then-get-eq63 c = all_events
-    (record { clear = sym c.test-found.ensures ∙ c.in_default.is; small = omega (arith, c.get.ensures.0) })
-    (sym c.get-2.ensures.0 ∙ c.if-get-eq63.true)
+pub returns-then-events-eq63 : goal.returns-then-events-eq63
+returns-then-events-eq63 c = let R = c.in_ok-table.ensures.ok in
+    all_events
+    (as_rule R (c.states.ensures.states ∙ ap states R.bytes) c.if-states-gt64.false)
+    (sym (c.events.ensures.events ∙ ap events R.bytes) ∙ c.if-events-eq63.true)
 
 pub returns-then-lacks : goal.returns-then-lacks
-returns-then-lacks c = short_work
-    (record { clear = sym c.test-found.ensures ∙ c.in_default.is; small = omega (arith, c.get.ensures.0) })
-    (λ e. c.if-get-eq63.false (c.get-2.ensures.0 ∙ e))
+returns-then-lacks c = let R = c.in_ok-table.ensures.ok in
+    short_work
+    (as_rule R (c.states.ensures.states ∙ ap states R.bytes) c.if-states-gt64.false)
+    (λ e. c.if-events-eq63.false (c.events.ensures.events ∙ ap events R.bytes ∙ e))
     c.if-lacks.true
 
 pub returns : goal.returns
-returns c = passed
-    (record { clear = sym c.test-found.ensures ∙ c.in_default.is; small = omega (arith, c.get.ensures.0) })
-    (λ e. c.if-get-eq63.false (c.get-2.ensures.0 ∙ e))
-    c.if-lacks.false
+returns c = let R = c.in_ok-table.ensures.ok in
+    let To : List ℕ → Type 0 = λ t. Tested c.args.rule.now c.args.lacks (Ok t) in
+    subst To (sym R.bytes)
+    (passed
+    (as_rule R (c.states.ensures.states ∙ ap states R.bytes) c.if-states-gt64.false)
+    (λ e. c.if-events-eq63.false (c.events.ensures.events ∙ ap events R.bytes ∙ e))
+    c.if-lacks.false)

@@ -14,26 +14,26 @@ use Rattle.watchdog.proofs.Splicing.{rows_few, watch_count, watch_length, puts_p
 use Rattle.watchdog.proofs.put.put_watchdog.Goals as goal
 
 pub overflow_mul-m : goal.overflow_mul-m
-overflow_mul-m c = omega (arith, rows_few c.args.form.count c.args.form.events c.requires.count_fits c.requires.events_fit)
+overflow_mul-m c = omega (arith, rows_few c.args.form.now.count c.args.form.now.events c.requires.count_fits c.requires.events_fit)
 
 pub overflow_add-m : goal.overflow_add-m
-overflow_add-m c = omega (arith, rows_few c.args.form.count c.args.form.events c.requires.count_fits c.requires.events_fit)
+overflow_add-m c = omega (arith, rows_few c.args.form.now.count c.args.form.now.events c.requires.count_fits c.requires.events_fit)
 
 pub overflow_mul-size : goal.overflow_mul-size
-overflow_mul-size c = omega (arith, rows_few c.args.form.count c.args.form.events c.requires.count_fits c.requires.events_fit)
+overflow_mul-size c = omega (arith, rows_few c.args.form.now.count c.args.form.now.events c.requires.count_fits c.requires.events_fit)
 
 pub overflow_add-size : goal.overflow_add-size
-overflow_add-size c = omega (arith, rows_few c.args.form.count c.args.form.events c.requires.count_fits c.requires.events_fit)
+overflow_add-size c = omega (arith, rows_few c.args.form.now.count c.args.form.now.events c.requires.count_fits c.requires.events_fit)
 
 pub returns-then-out-size : goal.returns-then-out-size
-returns-then-out-size c = no_room (omega (arith, watch_length c.args.form))
+returns-then-out-size c = no_room (omega (arith, watch_length c.args.form.now))
 
 pub overflow_cast-m : goal.overflow_cast-m
-overflow_cast-m c = omega (arith, rows_few c.args.form.count c.args.form.events c.requires.count_fits c.requires.events_fit)
+overflow_cast-m c = omega (arith, rows_few c.args.form.now.count c.args.form.now.events c.requires.count_fits c.requires.events_fit)
 
 pub returns : goal.returns
 returns c = let a = c.args in
-    let f = a.form in
+    let f = a.form.now in
     let o = c.put_header.new.out in
     puts_put (encoded (watch_table f)) a.out.now _ _ (sym (watch_length f)) (omega arith)
     (tail_back 12 o c.put_moves.new.ms
