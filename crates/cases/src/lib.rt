@@ -1,7 +1,7 @@
 // The trial tables that the order marks, byte by byte: a line for the header, then a line a move. The function of each
 // says that its bytes are those of the table in specs/. One function for all would be no plainer: the arrays differ in
 // length, so it would hand out slices, by a match with an arm for each.
-#![tactic(auto)]
+#![tactic(auto, unfolding(tables::specs::Bytes::encoded, tables::specs::Bytes::threes, tables::specs::Numbers::bytes))]
 
 ghost use Rattle.std.specs.Prelude.{◌≡◌};
 ghost use Rattle.cases.specs.Tables.{bytes_r, bytes_stop, bytes_div, bytes_flow2, bytes_flow3, bytes_rule7, bytes_flow7, bytes_flow9, bytes_join10, bytes_loop11, bytes_watchdog12};
