@@ -1,74 +1,41 @@
--- Bytes counted or put one by one: one byte, none, one row after another.
-use Prim.Native.Nat.{ℕ, ◌+◌, ◌≤◌, ◌<◌}
-use mathlib.Core.Path.{◌≡◌, refl, sym, ap, ◌∙◌}
-use mathlib.Core.Bool.{true, false≢true}
-use mathlib.Core.List.{List, [], ◌∷◌, ◌++◌}
-use native.Mathlib.Numerals.{add-one}
-use lib.ListN.{length, set, take, get_or}
-use lib.Seq.{take-suc, take_all}
-use borrow.Author.Tests.{lt-ltb, le-ltb}
-use Rattle.lines.specs.Pen.{is_over, Drawn, drawn, draw_one, draw, Draws}
-use Rattle.lines.specs.declared.pen.Pen.{Pen}
-use Rattle.lines.specs.declared.pen.Pen.TheVariants.{Counts, Puts, Over}
+-- What any pen does with one row of bytes after another.
+use Prim.Native.Nat.{ℕ}
+use mathlib.Core.Path.{◌≡◌, ap}
+use mathlib.Core.Bool.{false≢true}
+use mathlib.Core.List.{List, [], ◌++◌}
+use native.Mathlib.Omega.{arith}
+use lib.ListN.{length, length-append}
+use Rattle.std.specs.Prelude.{Result, Ok, Err, IsErr}
+use Rattle.lines.specs.declared.answer.Short.{Short}
+use Rattle.lines.specs.Pen.{PenLaws, Draws}
 
--- one byte
-module _ (b n : ℕ) (p : Pen) (o : List ℕ) where
-  pub one_counted : p ≡ Counts n → n < length o → Draws (b ∷ []) p o (Counts (n + 1)) o
-  unfolding draw
-  one_counted e h = record { is = simp (e, lt-ltb n (length o) h) }
+module _ {P : Type 0} {room : P → ℕ} {took : P → List ℕ → P → Type 0} (laws : PenLaws room took) where
+  pub took_none : {whole : List ℕ} (p : P) → whole ≡ [] → took p whole p
+  took_none p e = rw e (laws.none p)
 
-  pub one_not_counted : p ≡ Counts n → length o ≤ n → Draws (b ∷ []) p o Over o
-  unfolding draw
-  one_not_counted e h = record { is = simp (e, le-ltb n (length o) h) }
+  pub draws_none : {whole : List ℕ} (p : P) → whole ≡ [] → Draws room took whole p (Ok tt) p
+  draws_none p e = record { ok = took_none p e; err = tt }
 
-  pub one_put : p ≡ Puts n → n < length o → Draws (b ∷ []) p o (Puts (n + 1)) (set o n b)
-  unfolding draw
-  one_put e h = record { is = simp (e, lt-ltb n (length o) h) }
+  -- one row, then another
+  pub took_then : {whole a b : List ℕ} {p q r : P} → whole ≡ a ++ b → took p a q → took q b r → took p whole r
+  took_then {a = a} {b = b} {p} {q} {r} e f g = rw e (laws.joined p q r a b f g)
 
-  pub one_not_put : p ≡ Puts n → length o ≤ n → Draws (b ∷ []) p o Over o
-  unfolding draw
-  one_not_put e h = record { is = simp (e, le-ltb n (length o) h) }
+  pub draws_then :
+      {whole a b : List ℕ} {p q r : P} (x : Result (Unit {0}) Short) → whole ≡ a ++ b → took p a q →
+      Draws room took b q x r → Draws room took whole p x r
+  draws_then (Ok u) e f g = record { ok = took_then e f g.ok; err = tt }
+  draws_then {a = a} {b = b} {p} {q} (Err s) e f g = record { ok = tt; err = omega (arith, laws.used p q a f, g.err, ap length e, length-append a b) }
 
-pub one_over : (b : ℕ) (p : Pen) (o : List ℕ) → p ≡ Over → Draws (b ∷ []) p o Over o
-unfolding draw
-one_over b p o e = record { is = simp e }
+  -- the pen has no room for a row, the first or the second
+  pub draws_short :
+      {whole a : List ℕ} (b : List ℕ) {p q r : P} {s : Short} (x : Result (Unit {0}) Short) → whole ≡ a ++ b → IsErr x →
+      Draws room took a p (Err s) q → Draws room took whole p x r
+  draws_short b (Ok u) e i f = absurd (false≢true i)
+  draws_short {a = a} b (Err s) e i f = record { ok = tt; err = omega (arith, f.err, ap length e, length-append a b) }
 
-pub draws_none : (p : Pen) (o : List ℕ) → Draws [] p o p o
-unfolding draw
-draws_none p o = record { is = refl }
-
-draw-append : (a b : List ℕ) (p : Pen) (o : List ℕ) → draw (a ++ b) p o ≡ draw b (draw a p o).pen (draw a p o).out
-unfolding draw
-draw-append [] b p o = refl
-draw-append (x ∷ a) b p o = draw-append a b (draw_one x p o).pen (draw_one x p o).out
-
--- one row, then another
-pub draws_then :
-    {a b : List ℕ} {p q r : Pen} {o m n : List ℕ} → Draws a p o q m → Draws b q m r n → Draws (a ++ b) p o r n
-draws_then {a} {b} {p} {o = o} f g = record {
-  is = g.is ∙ ap (λ (d : Drawn). draw b d.pen d.out) f.is ∙ sym (draw-append a b p o);
-}
-
--- a row, byte by byte
-pub draws_next :
-    (l : List ℕ) (i : ℕ) {p q r : Pen} {o m n : List ℕ} → i < length l → Draws (take i l) p o q m → Draws (get_or l i 0 ∷ []) q m r n →
-    Draws (take (i + 1) l) p o r n
-draws_next l i h f g = rw (add-one, take-suc l i 0) (draws_then f g)
-
-pub draws_all : (l : List ℕ) (i : ℕ) {p q : Pen} {o m : List ℕ} → length l ≤ i → Draws (take i l) p o q m → Draws l p o q m
-draws_all l i h f = rw (take_all i l) at f
-
--- once they are too many, nothing more happens
-pub draw-over : (b : List ℕ) (o : List ℕ) → draw b Over o ≡ drawn Over o
-unfolding draw
-draw-over [] o = refl
-draw-over (x ∷ b) o = draw-over b o
-
-over_more : (b : List ℕ) (q : Pen) (m : List ℕ) → is_over q ≡ true → Draws b q m q m
-over_more b (Counts n) m e = absurd (false≢true e)
-over_more b (Puts n) m e = absurd (false≢true e)
-over_more b Over m e = record { is = sym (draw-over b m) }
-
--- bytes that are too many are too many with others after them
-pub draws_over : {a : List ℕ} (b : List ℕ) {p q : Pen} {o m : List ℕ} → Draws a p o q m → is_over q ≡ true → Draws (a ++ b) p o q m
-draws_over b {q = q} {m = m} f e = draws_then f (over_more b q m e)
+  pub draws_short_then :
+      {whole a b : List ℕ} (c : List ℕ) {p q r t : P} {s : Short} (x : Result (Unit {0}) Short) → whole ≡ (a ++ b) ++ c → IsErr x →
+      took p a q → Draws room took b q (Err s) r → Draws room took whole p x t
+  draws_short_then c (Ok u) e i f g = absurd (false≢true i)
+  draws_short_then {a = a} {b = b} c {p} {q} (Err s) e i f g =
+      record { ok = tt; err = omega (arith, laws.used p q a f, g.err, ap length e, length-append a b, length-append (a ++ b) c) }

@@ -1,19 +1,17 @@
--- Fields that follow another, one row of fields after another.
-use Prim.Native.Nat.{ℕ, ◌+◌, ◌≤◌, ◌<◌}
+-- Rows of fields, each after a space, as rows of bytes.
+use Prim.Native.Nat.{ℕ, ◌+◌, ◌<◌}
 use Prim.Native.String.{String}
-use mathlib.Core.Path.{◌≡◌, refl, sym, ap, subst, ◌∙◌}
-use mathlib.Core.Bool.{true}
+use mathlib.Core.Path.{◌≡◌, refl, sym, ap, ◌∙◌}
 use mathlib.Core.List.{List, [], ◌∷◌, ◌++◌, append_assoc, append-nil}
 use native.Mathlib.Numerals.{add-one}
 use lib.ListN.{length, take, drop, get_or, take-append-drop}
-use lib.Seq.{take-suc, take_all}
+use lib.Seq.{take-suc}
 use Rattle.lines.specs.Text.{letters, decimal}
 use Rattle.lines.specs.Fields.{Field, word, number, bytes_of, space, apart}
 use Rattle.lines.specs.Report.{events}
-use Rattle.lines.specs.Pen.{is_over, Draws, led}
-use Rattle.lines.specs.declared.pen.Pen.{Pen}
-use Rattle.lines.proofs.Drawing.{draws_none, draws_then, draws_over}
+use Rattle.lines.specs.Pen.{led}
 
+-- one row of fields, then another
 pub led-append : (f g : List Field) → led (f ++ g) ≡ led f ++ led g
 unfolding led
 led-append [] g = refl
@@ -21,54 +19,48 @@ led-append (a ∷ f) g =
     ap (λ (l : List ℕ). space ∷ (bytes_of a ++ l)) (led-append f g)
     ∙ sym (ap (λ (l : List ℕ). space ∷ l) (append_assoc (bytes_of a) (led f) (led g)))
 
--- one row of fields, then another
-pub fields_then :
-    (f g : List Field) {p q r : Pen} {o m n : List ℕ} → Draws (led f) p o q m → Draws (led g) q m r n → Draws (led (f ++ g)) p o r n
-fields_then f g a b = rw (led-append f g) (draws_then a b)
-
--- a word, then other fields
-pub word_then :
-    (w : String) (g : List Field) {p q r : Pen} {o m n : List ℕ} → Draws (space ∷ letters w) p o q m → Draws (led g) q m r n →
-    Draws (led (word w ∷ g)) p o r n
+-- no field; a word, then other fields
+pub led-none : led [] ≡ []
 unfolding led
-word_then w g a b = draws_then a b
+led-none = refl
+
+pub led-word : (w : String) (g : List Field) → led (word w ∷ g) ≡ (space ∷ letters w) ++ led g
+unfolding led
+led-word w g = refl
+
+-- a word, some fields, and some more
+pub led-word_then : (w : String) (f g : List Field) → led (word w ∷ (f ++ g)) ≡ ((space ∷ letters w) ++ led f) ++ led g
+led-word_then w f g =
+    led-word w (f ++ g)
+    ∙ ap (λ (l : List ℕ). (space ∷ letters w) ++ l) (led-append f g)
+    ∙ sym (append_assoc (space ∷ letters w) (led f) (led g))
 
 -- a number alone
-pub one_number : (n : ℕ) → space ∷ decimal n ≡ led (number n ∷ [])
+pub led-number : (n : ℕ) → led (number n ∷ []) ≡ (space ∷ []) ++ decimal n
 unfolding led
-one_number n = ap (λ (l : List ℕ). space ∷ l) (sym (append-nil (decimal n)))
+led-number n = ap (λ (l : List ℕ). space ∷ l) (append-nil (decimal n))
 
 pub events-append : (s t : List ℕ) → events (s ++ t) ≡ events s ++ events t
 events-append [] t = refl
 events-append (e ∷ s) t = ap (λ (l : List Field). number e ∷ l) (events-append s t)
 
 -- more events after those before
-pub events_then :
-    (s t : List ℕ) {p q r : Pen} {o m n : List ℕ} → Draws (led (events s)) p o q m → Draws (led (events t)) q m r n →
-    Draws (led (events (s ++ t))) p o r n
-events_then s t a b = rw (events-append s t) (fields_then (events s) (events t) a b)
+pub led-events-append : (s t : List ℕ) → led (events (s ++ t)) ≡ led (events s) ++ led (events t)
+led-events-append s t = ap led (events-append s t) ∙ led-append (events s) (events t)
 
 -- a trace, event by event
-pub events-none : (p : Pen) (o : List ℕ) → Draws (led (events [])) p o p o
-unfolding led
-events-none p o = draws_none p o
+pub led-next :
+    (s : List ℕ) (i : ℕ) → i < length s → led (events (take (i + 1) s)) ≡ led (events (take i s)) ++ led (number (get_or s i 0) ∷ [])
+led-next s i h = rw (add-one, take-suc s i 0) (led-events-append (take i s) (get_or s i 0 ∷ []))
 
-pub events-next :
-    (s : List ℕ) (i : ℕ) {p q r : Pen} {o m n : List ℕ} → i < length s → Draws (led (events (take i s))) p o q m →
-    Draws (led (number (get_or s i 0) ∷ [])) q m r n → Draws (led (events (take (i + 1) s))) p o r n
-events-next s i h a b = rw (add-one, take-suc s i 0) (events_then (take i s) (get_or s i 0 ∷ []) a b)
-
-pub events_all : (s : List ℕ) (i : ℕ) {p q : Pen} {o m : List ℕ} → length s ≤ i → Draws (led (events (take i s))) p o q m → Draws (led (events s)) p o q m
-events_all s i h f = rw (take_all i s) at f
-
--- a trace left early
-pub events-over :
-    (s : List ℕ) (i : ℕ) {p q : Pen} {o m : List ℕ} → Draws (led (events (take i s))) p o q m → is_over q ≡ true → Draws (led (events s)) p o q m
-events-over s i {p} {q} {o} {m} f e =
-    subst
-    (λ (l : List ℕ). Draws l p o q m)
-    (sym (led-append (events (take i s)) (events (drop i s))) ∙ ap led (sym (events-append (take i s) (drop i s)) ∙ ap events (take-append-drop i s)))
-    (draws_over (led (events (drop i s))) f e)
+-- the events before one, that one, and those after it
+pub led-rest :
+    (s : List ℕ) (i : ℕ) → i < length s →
+    led (events s) ≡ (led (events (take i s)) ++ led (number (get_or s i 0) ∷ [])) ++ led (events (drop (i + 1) s))
+led-rest s i h =
+    ap (λ (l : List ℕ). led (events l)) (sym (take-append-drop (i + 1) s))
+    ∙ led-events-append (take (i + 1) s) (drop (i + 1) s)
+    ∙ ap (λ (l : List ℕ). l ++ led (events (drop (i + 1) s))) (led-next s i h)
 
 -- the first field has no space before it
 pub apart-led : (f : Field) (r : List Field) → apart (f ∷ r) ≡ bytes_of f ++ led r

@@ -8,9 +8,6 @@ use native.Mathlib.Decide.{dec_lt}
 use lib.Dec.{ltb}
 use lib.ListN.{length, get_or, length-append, get_or-append}
 use borrow.Author.Tests.{lt-ltb, le-ltb}
-use Rattle.lines.specs.Pen.{Draws}
-use Rattle.lines.specs.declared.pen.Pen.{Pen}
-use Rattle.lines.proofs.Drawing.{draws_then}
 use Rattle.lines.specs.Text.{digit, digits, decimal}
 
 digits_one : (t n : ℕ) → n < 10 → digits t n ≡ digit n ∷ []
@@ -100,12 +97,3 @@ decimal_lead n e = go n n (omega arith) e
             ∙ sym (ap (λ (l : List ℕ). get_or l 0 0) (digits_more t n (omega arith)))
             ∙ e in
             omega (arith, f (omega arith) k)
-
--- the digits drawn: the one of a number below ten, or those of its tens and then its ones
-pub draws_one : {n : ℕ} {p q : Pen} {o m : List ℕ} → n < 10 → Draws (digit n ∷ []) p o q m → Draws (decimal n) p o q m
-draws_one {n} h f = rw (decimal_one n) f
-
-pub draws_more :
-    (n : ℕ) {p q r : Pen} {o m l : List ℕ} → 10 ≤ n → Draws (decimal (n / 10)) p o q m → Draws (digit (n % 10) ∷ []) q m r l →
-    Draws (decimal n) p o r l
-draws_more n h f g = rw (decimal_more n) (draws_then f g)

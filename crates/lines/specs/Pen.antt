@@ -1,37 +1,66 @@
 -- For inner functions only: bytes counted or put one by one.
-use Rattle.std.specs.Prelude.{ℕ, ◌+◌, ◌≡◌, Bool, true, false, cond, List, [], ◌∷◌, ◌++◌, length, set, ltb}
+use Rattle.std.specs.Prelude.{ℕ, suc, ◌+◌, ◌-◌, ◌≡◌, ◌<◌, ◌≤◌, List, [], ◌∷◌, ◌++◌, length, OnOk, OnErr, Result}
+use mathlib.Core.Path.{refl, ap, ap₂, ◌∙◌}
+use native.Mathlib.Omega.{arith}
+use lib.ListN.{set, length-append}
+use lib.Seq.{sets, length-sets}
 use Rattle.lines.specs.Fields.{Field, bytes_of, space}
-use Rattle.lines.specs.declared.pen.Pen.{Pen}
-use Rattle.lines.specs.declared.pen.Pen.TheVariants.{Counts, Puts, Over}
+use Rattle.lines.specs.declared.answer.Short.{Short}
+use Rattle.lines.specs.declared.pen.Count.{Count}
+use Rattle.lines.specs.declared.pen.Put.{Put}
 
--- the pen ran out of the buffer
-abbrev pub is_over : Pen → Bool
-is_over (Counts n) = false
-is_over (Puts n) = false
-is_over Over = true
+-- No bytes leave a pen as it is; one row and then another are one row; each byte takes its room.
+pub record PenLaws {P : Type 0} (room : P → ℕ) (took : P → List ℕ → P → Type 0) : Type 0 where
+  pub none : (p : P) → took p [] p
+  pub joined : (p q r : P) (a b : List ℕ) → took p a q → took q b r → took p (a ++ b) r
+  pub used : (p q : P) (a : List ℕ) → took p a q → room p ≡ length a + room q
 
--- the pen and the buffer
-pub record Drawn : Type 0 where
-  pub pen : Pen
-  pub out : List ℕ
+-- A pen takes the whole row of bytes, or has less room than that.
+pub record Draws {P : Type 0} (room : P → ℕ) (took : P → List ℕ → P → Type 0) (bytes : List ℕ) (old : P) (answer : Result (Unit {0}) Short) (new : P) : Type 0 where
+  pub ok : OnOk answer (took old bytes new)
+  pub err : OnErr answer (room old < length bytes)
 
-abbrev pub drawn : Pen → List ℕ → Drawn
-drawn pen out = record { pen = pen; out = out }
+-- a pen that counts has less room by each byte
+abbrev pub count_room : Count → ℕ
+count_room p = p.room
 
--- one byte
-abbrev pub draw_one : ℕ → Pen → List ℕ → Drawn
-draw_one b (Counts n) out = cond (ltb n (length out)) (drawn (Counts (n + 1)) out) (drawn Over out)
-draw_one b (Puts n) out = cond (ltb n (length out)) (drawn (Puts (n + 1)) (set out n b)) (drawn Over out)
-draw_one b Over out = drawn Over out
+abbrev pub Counted : Count → List ℕ → Count → Type 0
+Counted old bytes new = old.room ≡ length bytes + new.room
 
--- a row of bytes, one after another
-unfoldable pub draw : List ℕ → Pen → List ℕ → Drawn
-draw [] pen out = drawn pen out
-draw (b ∷ r) pen out = draw r (draw_one b pen out).pen (draw_one b pen out).out
+pub count_laws : PenLaws count_room Counted
+count_laws = record {
+  none = λ p. omega arith;
+  joined = λ p q r a b f g. omega (arith, length-append a b);
+  used = λ p q a f. f;
+}
 
--- from a pen and the old buffer, the bytes lead to the next pen and the new buffer
-pub record Draws (bytes : List ℕ) (pen : Pen) (old : List ℕ) (next : Pen) (new : List ℕ) : Type 0 where
-  pub is : drawn next new ≡ draw bytes pen old
+-- a pen that puts has the room of its buffer from its place on
+abbrev pub put_room : Put → ℕ
+put_room p = length p.out.now - p.at
+
+-- the bytes stand in the same buffer from the old place on, and the place is the one after them
+pub record IsPut (old : Put) (bytes : List ℕ) (new : Put) : Type 0 where
+  pub buffer : new.out.ghost_name ≡ old.out.ghost_name
+  pub at : new.at ≡ old.at + length bytes
+  pub room : length bytes ≤ put_room old
+  pub out : new.out.now ≡ sets old.out.now old.at bytes
+
+sets-append : (l : List ℕ) (n : ℕ) (a b : List ℕ) → sets (sets l n a) (n + length a) b ≡ sets l n (a ++ b)
+sets-append l n [] b = ap (λ (k : ℕ). sets l k b) (omega arith)
+sets-append l n (x ∷ a) b =
+    ap (λ (k : ℕ). sets (sets (set l n x) (suc n) a) k b) (omega arith) ∙ sets-append (set l n x) (suc n) a b
+
+pub put_laws : PenLaws put_room IsPut
+put_laws = record {
+  none = λ p. record { buffer = refl; at = omega arith; room = omega arith; out = refl };
+  joined = λ p q r a b f g. record {
+    buffer = g.buffer ∙ f.buffer;
+    at = omega (arith, f.at, g.at, length-append a b);
+    room = omega (arith, f.at, f.room, g.room, ap length f.out, length-sets p.out.now p.at a, length-append a b);
+    out = g.out ∙ ap₂ (λ (l : List ℕ) (n : ℕ). sets l n b) f.out f.at ∙ sets-append p.out.now p.at a b;
+  };
+  used = λ p q a f. omega (arith, f.at, f.room, ap length f.out, length-sets p.out.now p.at a);
+}
 
 -- fields that each follow another: a space before each
 unfoldable pub led : List Field → List ℕ

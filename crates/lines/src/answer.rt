@@ -1,6 +1,3 @@
-// What the line maker answers: how many bytes it wrote, or that the trace or the buffer is too short.
-#[derive(Clone, Copy)]
-pub enum Line {
-    Wrote(usize),
-    Short,
-}
+// Why there is no line: the trace slice is shorter than the verdict's trace, or the buffer is shorter than the line.
+#[derive(Clone, Copy, Debug, PartialEq, Eq, Drop)]
+pub struct Short;

@@ -4,42 +4,36 @@ ghost use Rattle.lines.specs.Fields.{number, space};
 ghost use Rattle.lines.specs.Report.{events};
 ghost use Rattle.lines.specs.Pen.{Draws, led};
 
-use crate::pen;
+use crate::answer::Short;
 use crate::pen::Pen;
 
-pub fn next_word(text: &[u8], pen: Pen, out: &mut [u8]) -> Pen
-    ensures { Draws (space ∷ text.now) pen out.old result out.new }
+pub fn next_word<P: Pen>(pen: &mut P, text: &[u8]) -> Result<(), Short>
+    ensures { Draws P.room P.took (space ∷ text.now) pen.old result pen.new }
 {
-    let p = pen::byte(b' ', pen, out);
-    pen::word(text, p, out)
+    pen.byte(b' ')?;
+    pen.word(text)
 }
 
-pub fn next_number(n: usize, pen: Pen, out: &mut [u8]) -> Pen
-    ensures { Draws (led (number n ∷ [])) pen out.old result out.new }
+pub fn next_number<P: Pen>(pen: &mut P, n: usize) -> Result<(), Short>
+    ensures { Draws P.room P.took (led (number n ∷ [])) pen.old result pen.new }
 {
-    let p = pen::byte(b' ', pen, out);
-    pen::number(n, p, out)
+    pen.byte(b' ')?;
+    pen.number(n)
 }
 
-pub fn two_numbers(a: usize, b: usize, pen: Pen, out: &mut [u8]) -> Pen
-    ensures { Draws (led (number a ∷ number b ∷ [])) pen out.old result out.new }
+pub fn two_numbers<P: Pen>(pen: &mut P, a: usize, b: usize) -> Result<(), Short>
+    ensures { Draws P.room P.took (led (number a ∷ number b ∷ [])) pen.old result pen.new }
 {
-    let p = next_number(a, pen, out);
-    next_number(b, p, out)
+    next_number(pen, a)?;
+    next_number(pen, b)
 }
 
 // The events of a trace. A trace can be far longer than the buffer, so it is left as soon as the bytes are too many.
-pub fn events(s: &[u8], pen: Pen, out: &mut [u8]) -> Pen
-    ensures { Draws (led (events s.now)) pen out.old result out.new }
+pub fn events<P: Pen>(pen: &mut P, s: &[u8]) -> Result<(), Short>
+    ensures { Draws P.room P.took (led (events s.now)) pen.old result pen.new }
 {
-    let mut p = pen;
-    let mut i = 0;
-    while i < s.len() {
-        if pen::is_over(p) {
-            return p;
-        }
-        p = next_number(s[i] as usize, p, out);
-        i += 1;
+    for event in s {
+        next_number(pen, usize::from(*event))?;
     }
-    p
+    Ok(())
 }

@@ -8,8 +8,8 @@ ghost use Rattle.lines.specs.Report.{mode_word, report_line};
 ghost use Rattle.lines.specs.Maker.{makes};
 ghost use Rattle.lines.specs.Pen.{Draws};
 
-use crate::answer::Line;
-use crate::pen::Pen;
+use crate::answer::Short;
+use crate::pen::{Count, Pen, Put};
 use refine::verdict::Verdict;
 
 pub mod answer;
@@ -18,50 +18,38 @@ mod offers;
 mod pen;
 mod verdict;
 
-fn mode_word(mode: u16, pen: Pen, out: &mut [u8]) -> Pen
-    ensures { Draws (bytes_of (mode_word mode)) pen out.old result out.new }
+fn mode_word<P: Pen>(pen: &mut P, mode: u16) -> Result<(), Short>
+    ensures { Draws P.room P.took (bytes_of (mode_word mode)) pen.old result pen.new }
 {
     if mode == 0 {
-        pen::word(b"traces", pen, out)
+        pen.word(b"traces")
     } else {
-        pen::word(b"failures", pen, out)
+        pen.word(b"failures")
     }
 }
 
 // The whole line, counted or put.
-fn draw(v: Verdict, trace: &[u8], mode: u16, pen: Pen, out: &mut [u8]) -> Pen
+fn draw<P: Pen>(pen: &mut P, v: Verdict, trace: &[u8], mode: u16) -> Result<(), Short>
     requires { length_of v ≤ length trace.now }
-    ensures { Draws (report_line mode (answer_of v trace.now)) pen out.old result out.new }
+    ensures { Draws P.room P.took (report_line mode (answer_of v trace.now)) pen.old result pen.new }
 {
-    let p = mode_word(mode, pen, out);
-    let q = verdict::verdict(v, trace, p, out);
-    pen::byte(b'\n', q, out)
+    mode_word(pen, mode)?;
+    verdict::verdict(pen, v, trace)?;
+    pen.byte(b'\n')
 }
 
-fn length_of(v: Verdict) -> usize
-    ensures { result ≡ length_of v }
-{
-    match v {
-        Verdict::Passes { nodes: _, pairs: _ } => 0,
-        Verdict::TraceFault { length } => length,
-        Verdict::RefusalFault { length, offers: _ } => length,
-        Verdict::Refused(_) => 0,
-    }
-}
-
-// Writes the line of a verdict, whose trace stands in the trace buffer, in a mode. The line is counted before it is put, so
-// that a buffer that is too short stays as it is.
-pub fn line(verdict: Verdict, trace: &[u8], mode: u16, out: &mut [u8]) -> Line
+// Writes the line of a verdict, whose trace stands in the trace buffer, in a mode, and answers how many bytes it has. The line
+// is counted before it is put, so that a buffer that is too short stays as it is.
+pub fn line(verdict: Verdict, trace: &[u8], mode: u16, out: &mut [u8]) -> Result<usize, Short>
     ensures answer { result ≡ (makes verdict trace.now mode out.old).answer }
     ensures buffer { out.new ≡ (makes verdict trace.now mode out.old).out }
 {
-    if trace.len() < length_of(verdict) {
-        return Line::Short;
+    if trace.len() < verdict.length() {
+        return Err(Short);
     }
-    let counted = draw(verdict, trace, mode, Pen::Counts(0), out);
-    let Pen::Counts(n) = counted else {
-        return Line::Short;
-    };
-    draw(verdict, trace, mode, Pen::Puts(0), out);
-    Line::Wrote(n)
+    let mut count = Count { room: out.len() };
+    draw(&mut count, verdict, trace, mode)?;
+    let mut put = Put { out, at: 0 };
+    draw(&mut put, verdict, trace, mode)?;
+    Ok(put.at)
 }

@@ -1,71 +1,88 @@
-// The bytes of a line, one after another: counted first, then put, by the same functions.
-ghost use Rattle.std.specs.Prelude.{◌≡◌, [], ◌∷◌};
+// What takes the bytes of a line: a pen that counts them, and then a pen that puts them, by the same functions.
+ghost use Rattle.std.specs.Prelude.{◌≡◌, ℕ, List, [], ◌∷◌};
 ghost use Rattle.lines.specs.Text.{decimal};
-ghost use Rattle.lines.specs.Pen.{is_over, Draws};
+ghost use Rattle.lines.specs.Pen.{Draws, PenLaws, count_room, Counted, count_laws, put_room, IsPut, put_laws};
 
-// How many bytes were counted, or put; or that they are more than the buffer holds.
-#[derive(Clone, Copy)]
-pub enum Pen {
-    Counts(usize),
-    Puts(usize),
-    Over,
-}
+use crate::answer::Short;
 
-// Whether the bytes are more than the buffer holds.
-pub fn is_over(pen: Pen) -> bool
-    ensures { result ≡ is_over pen }
-{
-    match pen {
-        Pen::Counts(_) => false,
-        Pen::Puts(_) => false,
-        Pen::Over => true,
-    }
-}
+pub trait Pen {
+    // How many more bytes it takes.
+    ghost room: { Self → ℕ };
 
-// One byte.
-pub fn byte(b: u8, pen: Pen, out: &mut [u8]) -> Pen
-    ensures { Draws (b ∷ []) pen out.old result out.new }
-{
-    match pen {
-        Pen::Counts(n) => {
-            if n < out.len() {
-                Pen::Counts(n + 1)
-            } else {
-                Pen::Over
-            }
+    // The pen before it takes a row of bytes, the row, and the pen after.
+    ghost took: { Self → List ℕ → Self → Type 0 };
+
+    ghost laws: { PenLaws room took };
+
+    // One byte.
+    fn byte(&mut self, b: u8) -> Result<(), Short>
+        ensures { Draws room took (b ∷ []) self.old result self.new };
+
+    // The bytes of a word.
+    final fn word(&mut self, text: &[u8]) -> Result<(), Short>
+    where
+        Self: Sized,
+        ensures { Draws room took text.now self.old result self.new }
+    {
+        for b in text {
+            self.byte(*b)?;
         }
-        Pen::Puts(at) => {
-            if at < out.len() {
-                out[at] = b;
-                Pen::Puts(at + 1)
-            } else {
-                Pen::Over
-            }
+        Ok(())
+    }
+
+    // A number in decimal: by hand, since the library's printing doesn't say when it fails, and a line's promise does.
+    final fn number(&mut self, n: usize) -> Result<(), Short>
+    where
+        Self: Sized,
+        ensures { Draws room took (decimal n) self.old result self.new }
+    {
+        if n < 10 {
+            return self.byte(b'0' + n as u8);
         }
-        Pen::Over => Pen::Over,
+        self.number(n / 10)?;
+        self.byte(b'0' + (n % 10) as u8)
     }
 }
 
-// The bytes of a word.
-pub fn word(text: &[u8], pen: Pen, out: &mut [u8]) -> Pen
-    ensures { Draws text.now pen out.old result out.new }
-{
-    let mut p = pen;
-    let mut i = 0;
-    while i < text.len() {
-        p = byte(text[i], p, out);
-        i += 1;
-    }
-    p
+// Counts the bytes down from the room that the buffer has.
+#[derive(Drop)]
+pub struct Count {
+    pub room: usize,
 }
 
-// A number in decimal.
-pub fn number(n: usize, pen: Pen, out: &mut [u8]) -> Pen
-    ensures { Draws (decimal n) pen out.old result out.new }
-{
-    if n < 10 {
-        return byte(b'0' + n as u8, pen, out);
+impl Pen for Count {
+    ghost room = { count_room };
+
+    ghost took = { Counted };
+
+    ghost laws = { count_laws };
+
+    fn byte(&mut self, _b: u8) -> Result<(), Short> {
+        self.room = self.room.checked_sub(1).ok_or(Short)?;
+        Ok(())
     }
-    let p = number(n / 10, pen, out);
-    byte(b'0' + (n % 10) as u8, p, out)
+}
+
+// Puts the bytes into the buffer, from a place on.
+#[derive(Drop)]
+pub struct Put<'a> {
+    pub out: &'a mut [u8],
+    pub at: usize,
+}
+
+impl Pen for Put<'_> {
+    ghost room = { put_room };
+
+    ghost took = { IsPut };
+
+    ghost laws = { put_laws };
+
+    fn byte(&mut self, b: u8) -> Result<(), Short> {
+        if self.out.len() <= self.at {
+            return Err(Short);
+        }
+        self.out[self.at] = b;
+        self.at += 1;
+        Ok(())
+    }
 }

@@ -7,66 +7,58 @@ ghost use Rattle.lines.specs.Fields.{number};
 ghost use Rattle.lines.specs.Report.{events, verdict_fields};
 ghost use Rattle.lines.specs.Pen.{Draws, led};
 
+use crate::answer::Short;
 use crate::pen::Pen;
 use crate::{fields, offers};
 use refine::verdict::Verdict;
 use tables::answer::Refusal;
 
-fn pass(nodes: usize, pairs: usize, pen: Pen, out: &mut [u8]) -> Pen
-    ensures { Draws (led (verdict_fields (found (passes nodes pairs)))) pen out.old result out.new }
+fn pass<P: Pen>(pen: &mut P, nodes: usize, pairs: usize) -> Result<(), Short>
+    ensures { Draws P.room P.took (led (verdict_fields (found (passes nodes pairs)))) pen.old result pen.new }
 {
-    let p = fields::next_word(b"holds", pen, out);
-    fields::two_numbers(nodes, pairs, p, out)
+    fields::next_word(pen, b"holds")?;
+    fields::two_numbers(pen, nodes, pairs)
 }
 
 // The length and the events of a trace.
-fn traced(s: &[u8], pen: Pen, out: &mut [u8]) -> Pen
-    ensures { Draws (led (number (length s.now) ∷ events s.now)) pen out.old result out.new }
+fn traced<P: Pen>(pen: &mut P, s: &[u8]) -> Result<(), Short>
+    ensures { Draws P.room P.took (led (number (length s.now) ∷ events s.now)) pen.old result pen.new }
 {
-    let p = fields::next_number(s.len(), pen, out);
-    fields::events(s, p, out)
+    fields::next_number(pen, s.len())?;
+    fields::events(pen, s)
 }
 
-fn trace_fault(s: &[u8], pen: Pen, out: &mut [u8]) -> Pen
-    ensures { Draws (led (verdict_fields (found (trace_fault s.now)))) pen out.old result out.new }
+fn trace_fault<P: Pen>(pen: &mut P, s: &[u8]) -> Result<(), Short>
+    ensures { Draws P.room P.took (led (verdict_fields (found (trace_fault s.now)))) pen.old result pen.new }
 {
-    let p = fields::next_word(b"trace-fault", pen, out);
-    traced(s, p, out)
+    fields::next_word(pen, b"trace-fault")?;
+    traced(pen, s)
 }
 
-fn refusal_fault(s: &[u8], set: u64, pen: Pen, out: &mut [u8]) -> Pen
-    ensures { Draws (led (verdict_fields (found (refusal_fault s.now set)))) pen out.old result out.new }
+fn refusal_fault<P: Pen>(pen: &mut P, s: &[u8], set: u64) -> Result<(), Short>
+    ensures { Draws P.room P.took (led (verdict_fields (found (refusal_fault s.now set)))) pen.old result pen.new }
 {
-    let p = fields::next_word(b"refusal-fault", pen, out);
-    let q = traced(s, p, out);
-    offers::offers(set, q, out)
+    fields::next_word(pen, b"refusal-fault")?;
+    traced(pen, s)?;
+    offers::offers(pen, set)
 }
 
-fn refused(w: Refusal, pen: Pen, out: &mut [u8]) -> Pen
-    ensures { Draws (led (verdict_fields (refused (whose w) (number_of w)))) pen out.old result out.new }
+fn refused<P: Pen>(pen: &mut P, w: Refusal) -> Result<(), Short>
+    ensures { Draws P.room P.took (led (verdict_fields (refused (whose w) (number_of w)))) pen.old result pen.new }
 {
-    let p = fields::next_word(b"refused", pen, out);
-    match w {
-        Refusal::Call(k) => fields::two_numbers(0, k as usize, p, out),
-        Refusal::Rule(k) => fields::two_numbers(1, k as usize, p, out),
-        Refusal::Flow(k) => fields::two_numbers(2, k as usize, p, out),
-    }
+    fields::next_word(pen, b"refused")?;
+    fields::two_numbers(pen, usize::from(w.whose()), usize::from(w.number()))
 }
 
 // The fields of a verdict whose trace stands at the front of the slice.
-pub fn verdict(v: Verdict, trace: &[u8], pen: Pen, out: &mut [u8]) -> Pen
+pub fn verdict<P: Pen>(pen: &mut P, v: Verdict, trace: &[u8]) -> Result<(), Short>
     requires { length_of v ≤ length trace.now }
-    ensures { Draws (led (verdict_fields (answer_of v trace.now))) pen out.old result out.new }
+    ensures { Draws P.room P.took (led (verdict_fields (answer_of v trace.now))) pen.old result pen.new }
 {
     match v {
-        Verdict::Passes { nodes, pairs } => pass(nodes, pairs, pen, out),
-        Verdict::TraceFault { length } => trace_fault(&trace[0..length], pen, out),
-        Verdict::RefusalFault { length, offers } => refusal_fault(
-            &trace[0..length],
-            offers,
-            pen,
-            out,
-        ),
-        Verdict::Refused(w) => refused(w, pen, out),
+        Verdict::Passes { nodes, pairs } => pass(pen, nodes, pairs),
+        Verdict::TraceFault { length } => trace_fault(pen, &trace[..length]),
+        Verdict::RefusalFault { length, offers } => refusal_fault(pen, &trace[..length], offers),
+        Verdict::Refused(w) => refused(pen, w),
     }
 }

@@ -1,20 +1,19 @@
-use borrow.Author.Rules.{rules}
 use native.Mathlib.Omega.{arith}
-use mathlib.Core.Path.{refl, sym, ◌∙◌}
-use Rattle.lines.proofs.Led.{events-none, events-next, events-over, events_all}
+use Rattle.lines.proofs.Drawing.{took_none, took_then, draws_short_then}
+use Rattle.lines.proofs.Led.{led-none, led-next, led-rest}
 use Rattle.lines.proofs.fields.events.Goals as goal
 
-pub loop-i-init : goal.loop-i-init
-loop-i-init c = (search rules, refl, events-none _ _)
+pub loop-event-init : goal.loop-event-init
+loop-event-init g c = (omega arith, took_none g.P.Pen.laws _ led-none)
 
-pub returns-then-is_over : goal.returns-then-is_over
-returns-then-is_over c = events-over c.args.s.now c.loop-i.i c.loop-i.invariant.2 (sym c.is_over.ensures ∙ c.if-is_over.true)
+pub loop-event-preserved : goal.loop-event-preserved
+loop-event-preserved g c = (
+  omega arith,
+  took_then g.P.Pen.laws (led-next _ _ c.loop-event-test.true) c.loop-event.invariant.1
+      (rw c.from.ensures at c.in_ok-next_number.ensures.ok),
+)
 
-pub overflow_cast-s : goal.overflow_cast-s
-overflow_cast-s c = omega (arith, c.type_inv.s c.loop-i.i)
-
-pub loop-i-preserved : goal.loop-i-preserved
-loop-i-preserved c = (search rules, search rules, events-next _ _ c.loop-i-test.true c.loop-i.invariant.2 c.next_number-p.ensures)
-
-pub returns : goal.returns
-returns c = events_all _ _ c.loop-i-test.false c.loop-i.invariant.2
+pub returns-in_err-next_number : goal.returns-in_err-next_number
+returns-in_err-next_number g c =
+    draws_short_then g.P.Pen.laws _ _ (led-rest _ _ c.loop-event-test.true) c.from_residual.ensures.0 c.loop-event.invariant.1
+    (rw c.from.ensures at c.in_err-next_number.ensures)

@@ -1,5 +1,7 @@
+use mathlib.Core.Path.{refl}
+use mathlib.Core.List.{[], ◌∷◌}
 use Rattle.lines.proofs.Drawing.{draws_then}
 use Rattle.lines.proofs.fields.next_word.Goals as goal
 
 pub returns : goal.returns
-returns c = draws_then c.byte-p.ensures c.word.ensures
+returns g c = draws_then g.P.Pen.laws {a = _ ∷ []} _ refl c.in_ok-byte.ensures.ok c.word.ensures

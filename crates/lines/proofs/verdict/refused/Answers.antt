@@ -1,15 +1,15 @@
 use Rattle.lines.specs.Text.{letters}
-use Rattle.lines.proofs.Led.{word_then}
+use Rattle.lines.proofs.Drawing.{draws_then, draws_short}
+use Rattle.lines.proofs.Led.{led-word}
 use Rattle.lines.proofs.verdict.refused.Goals as goal
 
-pub returns-in-Call : goal.returns-in-Call
+pub returns-in_err-next_word : goal.returns-in_err-next_word
 unfolding letters
-returns-in-Call c = rw c.in-Call.is (word_then "refused" _ c.next_word-p.ensures c.two_numbers.ensures)
+returns-in_err-next_word g c =
+    draws_short g.P.Pen.laws _ _ (led-word "refused" _) c.from_residual.ensures.0 c.in_err-next_word.ensures
 
-pub returns-in-Rule : goal.returns-in-Rule
+pub returns : goal.returns
 unfolding letters
-returns-in-Rule c = rw c.in-Rule.is (word_then "refused" _ c.next_word-p.ensures c.two_numbers-in-Rule.ensures)
-
-pub returns-in-Flow : goal.returns-in-Flow
-unfolding letters
-returns-in-Flow c = rw c.in-Flow.is (word_then "refused" _ c.next_word-p.ensures c.two_numbers-in-Flow.ensures)
+returns g c =
+    let w = rw (c.from.ensures, c.from-2.ensures, c.whose.ensures, c.number.ensures) at c.two_numbers.ensures in
+    draws_then g.P.Pen.laws _ (led-word "refused" _) c.in_ok-next_word.ensures.ok w
