@@ -5,13 +5,12 @@ use mathlib.Core.Bool.{Bool, true, false}
 use mathlib.Core.List.{List}
 use native.Mathlib.Omega.{arith}
 use lib.ListN.{length, length-replicate}
+use Rattle.std.specs.Prelude.{Option, None, Some}
 use Rattle.tables.specs.Bytes.{states, events, start, count, move_of}
 use Rattle.tables.specs.Tests.{when}
 use Rattle.tables.specs.Valid.{few_bytes, outside, misframed, astray, misnamed, disordered, circling, later_tests, refusal}
 use Rattle.tables.specs.Rule.{has_many_states}
 use Rattle.tables.specs.Answers.{rule, flow, call}
-use Rattle.tables.specs.declared.answer.Test.{Test}
-use Rattle.tables.specs.declared.answer.Test.TheVariants.{Clear, Refuses}
 use Rattle.refine.specs.Refusals.{Turned, let_in, turned, own, wrong_mode, other_events, tests}
 use Rattle.refine.specs.Checking.{Answers, turned_away, many_nodes, many_pairs, short_trace, told}
 use Rattle.refine.specs.Verdicts.{Answer, refused}
@@ -25,13 +24,13 @@ either P true h g = h
 either P false h g = g
 
 -- a table's own, 1 to 7
-abbrev Seven : Test → Type 0
-Seven t = (k : ℕ) → t ≡ Refuses k → k ≤ 7
+abbrev Seven : Option ℕ → Type 0
+Seven t = (k : ℕ) → t ≡ Some k → k ≤ 7
 
-seven : (j : ℕ) → j ≤ 7 → Seven (Refuses j)
+seven : (j : ℕ) → j ≤ 7 → Seven (Some j)
 seven j h k e = let x : j ≡ k = cc in omega arith
 
-seven_clear : Seven Clear
+seven_clear : Seven None
 seven_clear k e = absurd (let z : ◌≡◌ {A = ℕ} 0 1 = cc in omega arith)
 
 refusal_upto : (t : List ℕ) → Seven (refusal t)
@@ -52,9 +51,9 @@ Eleven t = (w k : ℕ) → t ≡ turned w k → (w ≤ 2) × (k ≤ 11)
 eleven : (v j : ℕ) → v ≤ 2 → j ≤ 11 → Eleven (turned v j)
 eleven v j h g w k e = let x : v ≡ w = cc in let y : j ≡ k = cc in (omega arith, omega arith)
 
-eleven_own : (v : ℕ) (t : Test) (later : Turned) → v ≤ 2 → Seven t → Eleven later → Eleven (own v t later)
-eleven_own v (Refuses j) later h s f = eleven v j h (omega (arith, s j refl))
-eleven_own v Clear later h s f = f
+eleven_own : (v : ℕ) (t : Option ℕ) (later : Turned) → v ≤ 2 → Seven t → Eleven later → Eleven (own v t later)
+eleven_own v (Some j) later h s f = eleven v j h (omega (arith, s j refl))
+eleven_own v None later h s f = f
 
 eleven_in : Eleven let_in
 eleven_in w k e = absurd (let z : ◌≡◌ {A = ℕ} 0 1 = cc in omega arith)

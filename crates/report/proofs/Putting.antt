@@ -3,6 +3,8 @@ use Prim.Native.Nat.{ℕ, ◌+◌, ◌-◌, ◌≤◌}
 use mathlib.Core.Path.{◌≡◌, refl, sym, ap, ap₂, ◌∙◌}
 use mathlib.Core.List.{List, ◌++◌, append_assoc}
 use native.Mathlib.Omega.{arith}
+use Rattle.std.specs.Prelude.{Result, Ok}
+use Rattle.std.specs.Result.{result_unwrap_or}
 use lib.ListN.{length, replicate, take, drop, length-append, length-drop}
 use lib.Seq.{take_at, drop_at, drop-drop}
 use borrow.Rule.Slice.PartMut.{put_mid}
@@ -13,8 +15,7 @@ use Rattle.refine.specs.Verdicts.{answer_of}
 use Rattle.refine.specs.Checking.{CheckCall}
 use Rattle.lines.specs.Report.{report_line}
 use Rattle.lines.specs.Maker.{Made, makes}
-use Rattle.lines.specs.declared.answer.Line.{Line}
-use Rattle.lines.specs.declared.answer.Line.TheVariants.{Wrote, Short}
+use Rattle.lines.specs.declared.answer.Short.{Short}
 use Rattle.lines.proofs.Making.{line_written}
 use Rattle.report.specs.Report.{Answered, Put, LineCall, ReportCall}
 use Rattle.report.proofs.Few.{line_few}
@@ -26,27 +27,23 @@ module _ (r f : List ℕ) (mode : ℕ) (v : Verdict) (left16 left64 t old : List
   line_answered = record { trace = t; answers = C.answers }
 
   fits : makes v t mode old ≡ record {
-    answer = Wrote (length (report_line mode (answer_of v t)));
+    answer = Ok (length (report_line mode (answer_of v t)));
     out = over (report_line mode (answer_of v t)) old;
   }
   fits = line_written v t mode old C.whole (omega (arith, line_few line_answered))
 
   -- the line maker never answers that there is no room
-  pub never_no_room : (m : Line) → m ≡ (makes v t mode old).answer → m ≡ Short → ⊥
-  never_no_room m e h =
-      let w = ap (λ (x : Made). x.answer) fits in
-      let z : ◌≡◌ {A = ℕ} 0 1 = cc in omega arith
-
   pub line_put :
-      (m : Line) (n : ℕ) (new : List ℕ) → m ≡ (makes v t mode old).answer → new ≡ (makes v t mode old).out → m ≡ Wrote n →
-      LineCall r f mode old n new
-  line_put m n new e g h =
-      let w = ap (λ (x : Made). x.answer) fits in
-      record {
-        line = report_line mode (answer_of v t);
-        is = record { answer = answer_of v t; answered = line_answered; is = refl };
-        put = record { size_is = cc; new_is = g ∙ ap (λ (x : Made). x.out) fits };
-      }
+      (m : Result ℕ Short) (new : List ℕ) → m ≡ (makes v t mode old).answer → new ≡ (makes v t mode old).out →
+      LineCall r f mode old (result_unwrap_or m 0) new
+  line_put m new e g = record {
+    line = report_line mode (answer_of v t);
+    is = record { answer = answer_of v t; answered = line_answered; is = refl };
+    put = record {
+      size_is = ap (λ (x : Result ℕ Short). result_unwrap_or x 0) (e ∙ ap (λ (x : Made). x.answer) fits);
+      new_is = g ∙ ap (λ (x : Made). x.out) fits;
+    };
+  }
 
 -- the room that a line takes
 pub line_small : {r f : List ℕ} {mode : ℕ} {old new : List ℕ} {n : ℕ} → LineCall r f mode old n new → n ≤ 50000

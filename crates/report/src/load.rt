@@ -1,5 +1,5 @@
 // A table's file.
-ghost use Rattle.std.specs.Prelude.{◌-◌, ◌≤◌, length};
+ghost use Rattle.std.specs.Prelude.{◌-◌, ◌≤◌, length, IfSome};
 
 use std::io::Read;
 use std::rt::Files;
@@ -8,32 +8,33 @@ use std::{fs, str};
 // One byte more than the longest table has (12 + 6 × 4,096): a file that fills this much is over 24,588 bytes.
 pub const ROOM: usize = 24589;
 
-// Reads a file to its end and answers how many bytes it has; 0 where a read fails, or where the file fills the buffer.
-fn read_whole<F: Read>(file: &mut F, buf: &mut [u8]) -> usize
-    ensures { result ≤ length buf.old - 1 }
+// Reads a file to its end, and hands back what it holds; none where a read fails, or where the file fills the buffer.
+fn read_whole<'b, F: Read>(file: &mut F, buf: &'b mut [u8]) -> Option<&'b [u8]>
+    ensures { IfSome result (λ t. length t.now ≤ length buf.old - 1) }
 {
     let mut n = 0;
     while n < buf.len() {
-        let Ok(more) = file.read(&mut buf[n..]) else {
-            return 0;
-        };
+        let more = file.read(&mut buf[n..]).ok()?;
         if more == 0 {
-            return n;
+            return Some(&buf[..n]);
         }
         n += more;
     }
-    0
+    None
+}
+
+// The file at a path, read whole; none where the path is no text, or the file can't be opened or read.
+fn read_at<'b, R: Files>(rt: &R, path: &[u8], buf: &'b mut [u8]) -> Option<&'b [u8]>
+    ensures { IfSome result (λ t. length t.now ≤ length buf.old - 1) }
+{
+    let name = str::from_utf8(path).ok()?;
+    let mut file = fs::open(rt, name).ok()?;
+    read_whole(&mut file, buf)
 }
 
 // Reads the table in a file; a file that can't be read, or fills the buffer, counts as an empty table.
-pub fn load<R: Files>(rt: &R, path: &[u8], buf: &mut [u8]) -> usize
-    ensures { result ≤ length buf.old - 1 }
+pub fn load<'b, R: Files>(rt: &R, path: &[u8], buf: &'b mut [u8]) -> &'b [u8]
+    ensures { length result.now ≤ length buf.old - 1 }
 {
-    let Ok(name) = str::from_utf8(path) else {
-        return 0;
-    };
-    let Ok(mut file) = fs::open(rt, name) else {
-        return 0;
-    };
-    read_whole(&mut file, buf)
+    read_at(rt, path, buf).unwrap_or(&[])
 }

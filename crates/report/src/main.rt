@@ -10,8 +10,8 @@ fn main(rt: HostRuntime) -> io::Result<()> {
     let mut rule = [0u8; load::ROOM];
     let mut flow = [0u8; load::ROOM];
     let mut out = [0u8; text::ROOM];
-    let n = load::load(&rt, b"rule.tbl", &mut rule);
-    let m = load::load(&rt, b"flow.tbl", &mut flow);
-    let k = text::two_lines(&rule[0..n], &flow[0..m], &mut out);
-    rt.write_all(&out[0..k])
+    let rule = load::load(&rt, b"rule.tbl", &mut rule);
+    let flow = load::load(&rt, b"flow.tbl", &mut flow);
+    let size = text::two_lines(rule, flow, &mut out);
+    rt.write_all(&out[..size])
 }

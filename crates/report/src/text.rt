@@ -2,7 +2,6 @@
 ghost use Rattle.std.specs.Prelude.{◌≤◌, length};
 ghost use Rattle.report.specs.Report.{LineCall, ReportCall};
 
-use lines::answer::Line;
 use lines::line;
 use refine::check::check;
 
@@ -18,11 +17,7 @@ fn line_of(rule: &[u8], flow: &[u8], mode: u16, out: &mut [u8]) -> usize
     let mut work64 = [0u64; 128];
     let mut trace = [0u8; 16384];
     let verdict = check(rule, flow, mode, &mut work16, &mut work64, &mut trace);
-    let made = line(verdict, &trace, mode, out);
-    let Line::Wrote(n) = made else {
-        return 0;
-    };
-    n
+    line(verdict, &trace, mode, out).unwrap_or(0)
 }
 
 // Both lines, mode 0 first.
