@@ -2,6 +2,7 @@
 use mathlib.Core.Path.{◌≡◌, refl, subst}
 use mathlib.Core.Bool.{Bool}
 use mathlib.Core.List.{List}
+use Rattle.std.specs.Prelude.{None}
 use Prim.Native.Nat.{ℕ}
 use native.Mathlib.Omega.{arith}
 use lib.ListN.{take}
@@ -14,7 +15,6 @@ use Rattle.csp.proofs.Faults.{pass_excludes}
 use Rattle.csp.proofs.Tables.{offers?}
 use Rattle.tables.specs.Bytes.{table_of}
 use Rattle.tables.specs.Valid.{refusal}
-use Rattle.tables.specs.declared.answer.Test.TheVariants.{Clear}
 use Rattle.refine.specs.Refusals.{let_in, tests}
 use Rattle.refine.specs.Checking.{Answers, turned_away, many_nodes, many_pairs, short_trace, told}
 use Rattle.refine.proofs.Tested.{let_in_all}
@@ -26,8 +26,8 @@ use Rattle.demands.specs.Calls as calls
 
 -- both tables are good
 pub record Good (rule flow : List ℕ) : Type 0 where
-  pub rule_good : refusal rule ≡ Clear
-  pub flow_good : refusal flow ≡ Clear
+  pub rule_good : refusal rule ≡ None
+  pub flow_good : refusal flow ≡ None
 
 pub let_in_good : (r f : List ℕ) (mode : ℕ) (s : Bool) → tests r f mode s ≡ let_in → Good r f
 let_in_good r f mode s e = let g = let_in_all r f mode s e in record { rule_good = g.rule_clear; flow_good = g.flow_clear }

@@ -1,6 +1,7 @@
 -- Demand 3, of the calls.
 use mathlib.Core.Path.{◌≡◌, sym, ap, ◌∙◌, subst}
 use mathlib.Core.List.{List}
+use Rattle.std.specs.Prelude.{None}
 use Prim.Native.Nat.{ℕ, ◌*◌, ◌+◌}
 use native.Mathlib.Omega.{arith}
 use Rattle.sets.specs.Sets.{has}
@@ -9,7 +10,6 @@ use Rattle.csp.proofs.Passing.{passes_refl, passes_trans}
 use Rattle.csp.proofs.Joins.{tables_join, tables_comm}
 use Rattle.tables.specs.Bytes.{table_of}
 use Rattle.tables.specs.Valid.{refusal}
-use Rattle.tables.specs.declared.answer.Test.TheVariants.{Clear}
 use Rattle.tables.proofs.Proper.{fits}
 use Rattle.tables.proofs.Same.{Alike, tables_same}
 use Rattle.joins.specs.Joining.{Made}
@@ -21,8 +21,8 @@ use Rattle.demands.proofs.Checking.{passed, will_pass}
 
 -- What a join that was written is: the joined table of two good ones.
 pub record JoinIs (first second : List ℕ) (X : ℕ) (t : List ℕ) : Type 0 where
-  pub first_good : refusal first ≡ Clear
-  pub second_good : refusal second ≡ Clear
+  pub first_good : refusal first ≡ None
+  pub second_good : refusal second ≡ None
   pub made : Made (table_of first) (table_of second) X t
 
 pub join_is : {first second : List ℕ} {X : ℕ} {t : List ℕ} → JoinWrote first second X t → JoinIs first second X t

@@ -3,6 +3,7 @@ use mathlib.Core.Path.{◌≡◌, refl, sym, ap, ◌∙◌, subst}
 use mathlib.Core.Bool.{Bool}
 use mathlib.Core.Logic.{◌↔◌}
 use mathlib.Core.List.{List}
+use Rattle.std.specs.Prelude.{None}
 use Prim.Native.Nat.{ℕ, zero, suc, ◌<◌, ◌≤◌}
 use native.Mathlib.Omega.{arith}
 use native.Mathlib.Decide.{dec_lt}
@@ -22,7 +23,6 @@ use Rattle.csp.proofs.Tables.{offers?}
 use Rattle.csp.proofs.Watched.{can_forth, watchdog_first, watchdog_second}
 use Rattle.tables.specs.Bytes.{events, table_of}
 use Rattle.tables.specs.Valid.{refusal}
-use Rattle.tables.specs.declared.answer.Test.TheVariants.{Clear}
 use Rattle.tables.proofs.Proper.{fits}
 use Rattle.joins.proofs.Unique.{made_bisim}
 use Rattle.watchdog.specs.Asking.{Made}
@@ -59,7 +59,7 @@ one_to E X h (suc e) = go (dec_lt E (suc e))
 
 -- what a builder's call wrote
 record DogIs (asked t : List ℕ) : Type 0 where
-  good : refusal asked ≡ Clear
+  good : refusal asked ≡ None
   made : Made (table_of asked) t
 
 dog_is : {asked t : List ℕ} → WatchdogWrote asked t → DogIs asked t

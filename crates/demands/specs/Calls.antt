@@ -1,6 +1,5 @@
 -- What calls did and will do, said by their own promises alone, on bytes.
-use Rattle.std.specs.Prelude.{◌≡◌, List, ℕ, take}
-use Rattle.tables.specs.declared.answer.Built.TheVariants.{Wrote}
+use Rattle.std.specs.Prelude.{◌≡◌, List, ℕ, take, Ok}
 use Rattle.joins.specs.Joining.{JoinCall}
 use Rattle.watchdog.specs.Asking.{WatchdogCall}
 use Rattle.refine.specs.Checking.{CheckCall}
@@ -12,7 +11,7 @@ pub record JoinWrote (first second : List ℕ) (X : ℕ) (t : List ℕ) : Type 0
   pub old : List ℕ
   pub new : List ℕ
   pub size : ℕ
-  pub call : JoinCall first second X old (Wrote size) new
+  pub call : JoinCall first second X old (Ok size) new
   pub is : t ≡ take size new
 
 -- A call of the watchdog's builder wrote the table t.
@@ -24,7 +23,7 @@ pub record WatchdogWrote (asked t : List ℕ) : Type 0 where
   pub left64 : List ℕ
   pub new : List ℕ
   pub size : ℕ
-  pub call : WatchdogCall asked work16 work64 old (Wrote size) left16 left64 new
+  pub call : WatchdogCall asked work16 work64 old (Ok size) left16 left64 new
   pub is : t ≡ take size new
 
 -- A check of the flow against the rule in the mode gave the answer v.
