@@ -7,6 +7,7 @@ use crate::moves::Move;
 use crate::{moves, valid};
 
 // Move j of a list.
+#[tactic(auto, using(crate::proofs::Rows::same_move), unfolding(crate::specs::Moves::listed))]
 fn listed_at(list: &[u16], j: usize) -> Move
     requires { 3 * j + 2 < length list.now }
     ensures { meant result ≡ listed list.now j }

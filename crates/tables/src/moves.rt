@@ -33,6 +33,7 @@ impl Move {
 }
 
 // Move j of a part.
+#[tactic(auto, using(crate::proofs::Rows::same_move), unfolding(crate::specs::Moves::move_at))]
 pub fn move_at(ms: &[u8], j: usize) -> Move
     requires { 6 * j + 5 < length ms.now }
     ensures { meant result ≡ move_at ms.now j }
@@ -45,6 +46,7 @@ pub fn move_at(ms: &[u8], j: usize) -> Move
 }
 
 // The first of 4 to 7 that applies to m moves, each over all of them before the next; `at` says which move is move j.
+#[tactic(auto, unfolding(crate::specs::Tests::some, crate::specs::Valid::misnamed, crate::specs::Valid::disordered, crate::specs::Valid::circling))]
 pub fn test<F: Fn(usize) -> Move>(n: usize, e: usize, start: usize, m: usize, at: F) -> Option<u8>
     ghost moves: { ℕ → Meant }
     requires there { (j : ℕ) → j < m → F.pre at j }

@@ -29,6 +29,7 @@ fn event_at(part: &[u8], j: usize) -> usize
 }
 
 // The visible events of a part's moves.
+#[tactic(auto, using(crate::proofs::PartOffers::visible_none))]
 pub fn offers_of(part: &[u8]) -> u64
     requires { SmallEvents (moves_in part.now) }
     ensures { Holds Has result (Visible (moves_in part.now)) }

@@ -62,6 +62,7 @@ impl<'a> Table<'a> {
     }
 
     // The number at byte `at` of the header.
+    #[tactic(auto, using(crate::proofs::Tested::good))]
     fn number(&self, at: usize) -> usize
         requires { at < 11 }
         ensures number { result ≡ num self.now at }
@@ -102,6 +103,7 @@ impl<'a> Table<'a> {
     }
 
     // The part that its moves stand in, from byte 12 on.
+    #[tactic(auto, using(crate::proofs::Tested::good))]
     pub fn moves(&self) -> &'a [u8]
         ensures part { result.now ≡ drop 12 self.now }
         ensures good { refusal self.now ≡ None }

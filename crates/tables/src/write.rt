@@ -10,7 +10,7 @@ use crate::answer::Refusal;
 use crate::listed;
 use crate::num::put_all;
 
-// Puts the header of a table with m moves.
+// Puts the header of a table with m moves. Its four numbers stay side by side, as the writer's call has them.
 pub fn put_header(n: u16, e: u16, start: u16, m: u16, out: &mut [u8])
     requires { 12 ≤ length out.old }
     ensures { out.new ≡ header n e start m ++ drop 12 out.old }

@@ -1,8 +1,7 @@
 use Prim.Native.Nat.{◌-◌}
-use mathlib.Core.Path.{◌≡◌, refl, sym, ap, ap₂, ◌∙◌}
+use mathlib.Core.Path.{◌≡◌, sym, ap, ap₂, ◌∙◌}
 use native.Mathlib.Omega.{arith}
 use Rattle.csp.specs.Table.{Move}
-use Rattle.tables.specs.Tests.{some}
 use Rattle.tables.specs.Moves.{meant}
 use Rattle.tables.specs.Valid.{misnames, precedes, circles, misnamed, disordered, circling}
 use Rattle.std.proofs.Common.{rules}
@@ -30,10 +29,6 @@ of_two a b p q e h = ap₂ precedes (sym p) (sym q) ∙ not_ge a b ∙ ap not (s
 pub returns-then-start-n : goal.returns-then-start-n
 returns-then-start-n g c = later_4 _ _ _ _ _ c.if-start-n.true
 
-pub loop-j-init : goal.loop-j-init
-unfolding misnamed some
-loop-j-init g c = refl
-
 pub returns-then-misnames : goal.returns-then-misnames
 unfolding misnamed
 returns-then-misnames g c = let a = c.args in
@@ -46,10 +41,6 @@ unfolding misnamed
 loop-j-preserved g c = let a = c.args in
     let v : meant c.at.result ≡ g.moves c.loop-j.j = c.requires.1.1 _ _ c.loop-j-test.true c.at.ensures in
     some_next (λ i. misnames a.n a.e (g.moves i)) c.loop-j.j c.loop-j.invariant (of_row (misnames a.n a.e) v c.misnames.ensures c.if-misnames.false)
-
-pub loop-j-2-init : goal.loop-j-2-init
-unfolding disordered some
-loop-j-2-init g c = refl
 
 pub returns-then-ge : goal.returns-then-ge
 unfolding misnamed
@@ -66,10 +57,6 @@ loop-j-2-preserved g c = let j = c.loop-j-2.j in
     let v : meant c.at-in-loop-j-2-2.result ≡ g.moves j = c.requires.1.1 _ _ c.loop-j-2-test.true c.at-in-loop-j-2-2.ensures in
     ordered_next g.moves j c.loop-j-2.auto.j c.loop-j-2.invariant
     (of_two _ _ u v c.ge.ensures c.if-ge.false)
-
-pub loop-j-3-init : goal.loop-j-3-init
-unfolding circling some
-loop-j-3-init g c = refl
 
 pub returns-then-circles : goal.returns-then-circles
 unfolding misnamed disordered circling

@@ -1,12 +1,7 @@
 use mathlib.Core.Path.{refl}
 use native.Mathlib.Omega.{arith}
 use Rattle.tables.proofs.Coded.{put_next}
-use Rattle.tables.specs.Numbers.{bytes}
 use Rattle.tables.proofs.num.put_all.Goals as goal
-
-pub loop-i-init : goal.loop-i-init
-unfolding bytes
-loop-i-init c = refl
 
 pub loop-i-preserved : goal.loop-i-preserved
 loop-i-preserved c = put_next _ _ _ c.loop-i.i _ _ c.loop-i-test.true (omega arith)

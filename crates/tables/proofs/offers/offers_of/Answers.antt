@@ -1,14 +1,10 @@
 use Prim.Native.Nat.{◌/◌}
-use mathlib.Core.Path.{◌≡◌}
 use native.Mathlib.Omega.{arith}
 use lib.ListN.{length}
 use Rattle.tables.specs.Moves.{move_at}
 use Rattle.tables.proofs.Rows.{in_row}
-use Rattle.tables.proofs.PartOffers.{visible_none, visible_next}
+use Rattle.tables.proofs.PartOffers.{visible_next}
 use Rattle.tables.proofs.offers.offers_of.Goals as goal
-
-pub loop-j-init : goal.loop-j-init
-loop-j-init c = visible_none (move_at _)
 
 pub with_visible-set-requires : goal.with_visible-set-requires
 with_visible-set-requires c = let p = c.args.part.now in
@@ -17,8 +13,3 @@ with_visible-set-requires c = let p = c.args.part.now in
 pub loop-j-preserved : goal.loop-j-preserved
 loop-j-preserved c = let l = c.loop-j in
     visible_next (move_at c.args.part.now) l.j _ _ _ c.event_at.ensures l.invariant c.with_visible-set.ensures
-
-pub returns : goal.returns
-returns c = let l = c.loop-j in
-    let e : l.j ≡ length c.args.part.now / 6 = omega arith in
-    rw e at l.invariant

@@ -25,15 +25,6 @@ give-requires c = let h = c.in_ok-table.ensures.ok in
     let p = rw h.bytes at c.moves.ensures.part in
     rw p (omega (arith, m, length-drop 12 c.args.t.now, (good _ h.good).frame.size))
 
-pub get16-requires : goal.get16-requires
-get16-requires c = omega (arith, (good _ c.in_ok-table.ensures.ok.good).long)
-
-pub get16-requires-2 : goal.get16-requires-2
-get16-requires-2 c = omega (arith, (good _ c.in_ok-table.ensures.ok.good).long)
-
-pub get16-requires-3 : goal.get16-requires-3
-get16-requires-3 c = omega (arith, (good _ c.in_ok-table.ensures.ok.good).long)
-
 pub returns : goal.returns
 returns c = let h = c.in_ok-table.ensures.ok in
     let t = c.args.t.now in

@@ -4,9 +4,6 @@ use Rattle.tables.specs.Moves.{move_at}
 use Rattle.tables.proofs.Seeking.{seeks_here, seeks_on, lower_more}
 use Rattle.tables.proofs.state.seek.Goals as goal
 
-pub loop-k-init : goal.loop-k-init
-loop-k-init c = (omega arith, (omega arith, λ j a b. omega arith))
-
 pub returns-then-get-s : goal.returns-then-get-s
 unfolding move_at
 returns-then-get-s c = let inv = c.loop-k.invariant in
@@ -28,9 +25,6 @@ loop-k-preserved c = let a = c.args in
     let L = lower_more a.ms.now a.i a.s k inv.1.1 (omega (arith, c.get.ensures.0)) in
     let M = lower_more a.ms.now a.i a.s (k + 1) L (omega (arith, c.get-in-loop-k.ensures.0)) in
     (omega arith, (omega arith, λ j a b. M j (omega arith) b))
-
-pub seek_last-requires : goal.seek_last-requires
-seek_last-requires c = (c.requires.0, (c.loop-k.invariant.1.0, omega arith))
 
 pub returns : goal.returns
 returns c = let inv = c.loop-k.invariant in
