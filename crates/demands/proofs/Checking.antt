@@ -41,7 +41,7 @@ found_one : {v w : csp.Verdict} → ◌≡◌ {A = Answer} (found v) (found w) �
 found_one e = cc
 
 not_found : {w k : ℕ} {v : csp.Verdict} {A : Type 0} → ◌≡◌ {A = Answer} (refused w k) (found v) → A
-not_found e = absurd (let z : ◌≡◌ {A = ℕ} 0 1 = cc in omega arith)
+not_found e = cc
 
 answers_right :
     {r f : List ℕ} {mode : ℕ} {work16 work64 old new : List ℕ} {a : Answer} → Answers r f mode work16 work64 old a new →
@@ -63,8 +63,8 @@ checked_right c w e = answers_right c.call.answers w e
 -- a right verdict that passes
 right_passes : {m : ℕ} {i s : Table} {v : csp.Verdict} {n p : ℕ} → Right m i s v → v ≡ passes n p → pass.Passes m (lts i) (lts s)
 right_passes (right_pass k l p N a) e = p
-right_passes (right_trace f b) e = absurd (let z : ◌≡◌ {A = ℕ} 0 1 = cc in omega arith)
-right_passes (right_refusal h c b) e = absurd (let z : ◌≡◌ {A = ℕ} 0 1 = cc in omega arith)
+right_passes (right_trace f b) e = cc
+right_passes (right_refusal h c b) e = cc
 
 pub record PassedMeans (mode : ℕ) (rule flow : List ℕ) : Type 0 where
   pub good : Good rule flow
@@ -76,14 +76,14 @@ passed p = let t = checked_right p.checked (passes p.nodes p.pairs) refl in reco
 -- Where the meaning passes, a right verdict is no fault.
 no_trace :
     {m : ℕ} {i s : Table} {v : csp.Verdict} {u : List ℕ} → pass.Passes m (lts i) (lts s) → Right m i s v → v ≡ trace_fault u → ⊥
-no_trace h (right_pass k l p N a) e = let z : ◌≡◌ {A = ℕ} 0 1 = cc in omega arith
+no_trace h (right_pass k l p N a) e = cc
 no_trace {m} {i} {s} h (right_trace {s = t} f b) e = pass_excludes m (lts i) (lts s) (offers? i) h t (of_trace f)
-no_trace h (right_refusal g c b) e = let z : ◌≡◌ {A = ℕ} 0 1 = cc in omega arith
+no_trace h (right_refusal g c b) e = cc
 
 no_refusal :
     {m o : ℕ} {i s : Table} {v : csp.Verdict} {u : List ℕ} → pass.Passes m (lts i) (lts s) → Right m i s v → v ≡ refusal_fault u o → ⊥
-no_refusal h (right_pass k l p N a) e = let z : ◌≡◌ {A = ℕ} 0 1 = cc in omega arith
-no_refusal h (right_trace f b) e = let z : ◌≡◌ {A = ℕ} 0 1 = cc in omega arith
+no_refusal h (right_pass k l p N a) e = cc
+no_refusal h (right_trace f b) e = cc
 no_refusal {m} {i = i} {s = s} h (right_refusal {s = t} g c b) e = pass_excludes m (lts i) (lts s) (offers? i) h t (of_refusal c.state g c.shows)
 
 pub will_pass : (mode : ℕ) (rule flow : List ℕ) → pass.Passes mode (lts (table_of flow)) (lts (table_of rule)) → WillPass mode rule flow
@@ -99,8 +99,8 @@ broken : {i s : Table} {v : csp.Verdict} {u : List ℕ} {n p : ℕ} → TraceFau
 broken {i} {s} {u = u} f r e = pass_excludes 0 (lts i) (lts s) (offers? i) (right_passes r e) u (of_trace f)
 
 mode_0 : {i s : Table} {v : csp.Verdict} {u : List ℕ} {o : ℕ} → Right 0 i s v → v ≡ refusal_fault u o → ⊥
-mode_0 (right_pass k l p N a) e = let z : ◌≡◌ {A = ℕ} 0 1 = cc in omega arith
-mode_0 (right_trace f b) e = let z : ◌≡◌ {A = ℕ} 0 1 = cc in omega arith
+mode_0 (right_pass k l p N a) e = cc
+mode_0 (right_trace f b) e = cc
 mode_0 (right_refusal g c b) e = omega arith
 
 pub will_break : (rule flow u : List ℕ) → TraceFault (lts (table_of flow)) (lts (table_of rule)) u → WillBreak 0 rule flow
@@ -112,9 +112,9 @@ will_break rule flow u f (verdict.RefusalFault k o) c =
 
 right_trace_fault :
     {m : ℕ} {i s : Table} {v : csp.Verdict} {u : List ℕ} → Right m i s v → v ≡ trace_fault u → (w : List ℕ) × TraceFault (lts i) (lts s) w
-right_trace_fault (right_pass k l p N a) e = absurd (let z : ◌≡◌ {A = ℕ} 0 1 = cc in omega arith)
+right_trace_fault (right_pass k l p N a) e = cc
 right_trace_fault (right_trace {s = s} f b) e = (s, f)
-right_trace_fault (right_refusal g c b) e = absurd (let z : ◌≡◌ {A = ℕ} 0 1 = cc in omega arith)
+right_trace_fault (right_refusal g c b) e = cc
 
 pub broke : {mode : ℕ} {rule flow : List ℕ} → Broke mode rule flow → (u : List ℕ) × TraceFault (lts (table_of flow)) (lts (table_of rule)) u
 broke b = right_trace_fault (checked_right b.checked (trace_fault (take b.length b.checked.new)) refl).right refl

@@ -51,7 +51,7 @@ never_14 (many_nodes t m) e l = let z : ◌≡◌ {A = ℕ} 12 14 = cc in omega 
 never_14 (many_pairs t n m) e l = let z : ◌≡◌ {A = ℕ} 13 14 = cc in omega arith
 never_14 {r} {f} {mode} (short_trace {v = v} t n m x s) e l =
     omega (arith, told_short n (record { good = let_in_good r f mode _ t; right = x }))
-never_14 (told t n m x s) e l = let z : ◌≡◌ {A = ℕ} 0 1 = cc in omega arith
+never_14 (told t n m x s) e l = cc
 
 pub never_short : NeverShort
 never_short rule flow mode work16 work64 old left16 left64 new l c = never_14 c.answers refl l

@@ -71,17 +71,17 @@ pub record LetIn (r f : List ℕ) (mode : ℕ) (short : Bool) : Type 0 where
   pub long : short ≡ false
 
 when_in : (b : Bool) (w k : ℕ) (later : Turned) → when b (turned w k) later ≡ let_in → (b ≡ false) × (later ≡ let_in)
-when_in true w k later h = absurd (let z : ◌≡◌ {A = ℕ} 0 1 = cc in omega arith)
+when_in true w k later h = cc
 when_in false w k later h = (refl, h)
 
 own_in : (w : ℕ) (t : Option ℕ) (later : Turned) → own w t later ≡ let_in → (t ≡ None) × (later ≡ let_in)
-own_in w (Some k) later h = absurd (let z : ◌≡◌ {A = ℕ} 0 1 = cc in omega arith)
+own_in w (Some k) later h = cc
 own_in w None later h = (refl, h)
 
 mode_low : (mode : ℕ) → wrong_mode mode ≡ false → mode ≤ 1
 mode_low zero h = omega arith
 mode_low (suc zero) h = omega arith
-mode_low (suc (suc m)) h = absurd (let e = sym (wrong (suc (suc m)) (omega arith)) ∙ h in let z : ◌≡◌ {A = ℕ} 0 1 = cc in omega arith)
+mode_low (suc (suc m)) h = let e = sym (wrong (suc (suc m)) (omega arith)) ∙ h in cc
 
 pub let_in_all : (r f : List ℕ) (mode : ℕ) (short : Bool) → tests r f mode short ≡ let_in → LetIn r f mode short
 unfolding tests
@@ -126,7 +126,7 @@ module _ (P : ℕ → ℕ → Type 0) where
       (own_each flow (refusal f) _ pf
       (when_each (other_events r f) call 9 _ (λ h. p9)
       (when_each (has_many_states r) rule 10 _ (λ h. p10)
-      (when_each short call 11 let_in (λ h. p11) (λ h. absurd (let z : ◌≡◌ {A = ℕ} 0 1 = cc in omega arith)))))))
+      (when_each short call 11 let_in (λ h. p11) (λ h. cc))))))
 
 -- Two good tables and a mode that is allowed are turned away by 9, 10 or 11 only.
 pub good_turned :
@@ -135,8 +135,8 @@ pub good_turned :
 good_turned r f mode short m cr cf w k =
     turned_each (λ v j. (9 ≤ j) × (j ≤ 11)) r f mode short
     (λ h. absurd (true≢false (sym h ∙ allowed mode m)))
-    (λ j h. absurd (let e = sym h ∙ cr in let z : ◌≡◌ {A = ℕ} 0 1 = cc in omega arith))
-    (λ j h. absurd (let e = sym h ∙ cf in let z : ◌≡◌ {A = ℕ} 0 1 = cc in omega arith))
+    (λ j h. cc)
+    (λ j h. cc)
     (omega arith, omega arith)
     (omega arith, omega arith)
     (omega arith, omega arith)

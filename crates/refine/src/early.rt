@@ -6,7 +6,8 @@ ghost use Rattle.refine.specs.Walking.{turned_of};
 use tables::answer::Refusal;
 use tables::table::Table;
 
-// 8, the rule's 1 to 7, the flow's 1 to 7, then 9, 10 and 11: the first that holds, or the two tables.
+// 8, the rule's 1 to 7, the flow's 1 to 7, then 9, 10 and 11: the first that holds, or the two tables. The mode stays a
+// number, as the calls for C take it: every definition that a promise names is over that number.
 pub fn tested<'a>(
     rule: &'a [u8],
     flow: &'a [u8],

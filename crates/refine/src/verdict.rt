@@ -6,7 +6,7 @@ use tables::answer::Refusal;
 use walk::tell::Walked;
 
 // The flow passes, with the count of nodes and the count of pairs met; or a fault of one of two kinds, with the length of
-// its trace and, for a refusal fault, the offers; or the call is refused.
+// its trace and, for a refusal fault, the offers; or the call is refused. Document 01 names this form, the refusal inside.
 #[derive(Clone, Copy, PartialEq, Eq, Debug)]
 pub enum Verdict {
     Passes { nodes: usize, pairs: usize },

@@ -1,4 +1,5 @@
-// The two workspaces: when one is short, and clearing both.
+// The two workspaces: when one is short, and clearing both. They stay two slices: the public calls are lent them so, for C
+// too, and the walk uses the first alone.
 #![tactic(auto)]
 
 ghost use Rattle.std.specs.Prelude.{◌≡◌};
