@@ -4,3 +4,5 @@ pub mod Joining
 pub mod Next
 pub mod Numbered
 pub mod Pairs
+pub mod Paired
+pub mod Placed
