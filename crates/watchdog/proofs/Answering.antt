@@ -84,9 +84,6 @@ module _ (asked : List ℕ) (lacks : Bool) (old : List ℕ) (p : Passed asked la
     form_of : (nodes : List ℕ) × FormOf (table_of asked) nodes f
     form_of = formed_some (table_of asked) (rule_fits asked p.good) w is
 
-    pub form_upto : f.count ≤ 64
-    form_upto = omega (arith, form_of.1.upto, form_of.1.count_is)
-
     pub form_spare : f.events < 63
     form_spare = let n : events asked ≢ 63 = p.spare in omega (arith, form_of.1.events_is, events_upto asked p.good)
 

@@ -10,26 +10,11 @@ use Rattle.watchdog.specs.Asking.{no_room}
 use Rattle.tables.specs.Putting.{move_bytes}
 use Rattle.watchdog.specs.Rows.{watch_moves, watch_table}
 use Rattle.tables.proofs.Putting.{table_put}
-use Rattle.watchdog.proofs.Splicing.{rows_few, watch_count, watch_length, puts_put}
+use Rattle.watchdog.proofs.Splicing.{watch_count, watch_length, puts_put}
 use Rattle.watchdog.proofs.put.put_watchdog.Goals as goal
-
-pub overflow_mul-m : goal.overflow_mul-m
-overflow_mul-m c = omega (arith, rows_few c.args.form.now.count c.args.form.now.events c.requires.count_fits c.requires.events_fit)
-
-pub overflow_add-m : goal.overflow_add-m
-overflow_add-m c = omega (arith, rows_few c.args.form.now.count c.args.form.now.events c.requires.count_fits c.requires.events_fit)
-
-pub overflow_mul-size : goal.overflow_mul-size
-overflow_mul-size c = omega (arith, rows_few c.args.form.now.count c.args.form.now.events c.requires.count_fits c.requires.events_fit)
-
-pub overflow_add-size : goal.overflow_add-size
-overflow_add-size c = omega (arith, rows_few c.args.form.now.count c.args.form.now.events c.requires.count_fits c.requires.events_fit)
 
 pub returns-then-out-size : goal.returns-then-out-size
 returns-then-out-size c = no_room (omega (arith, watch_length c.args.form.now))
-
-pub overflow_cast-m : goal.overflow_cast-m
-overflow_cast-m c = omega (arith, rows_few c.args.form.now.count c.args.form.now.events c.requires.count_fits c.requires.events_fit)
 
 pub returns : goal.returns
 returns c = let a = c.args in

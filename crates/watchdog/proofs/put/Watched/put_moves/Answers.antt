@@ -4,32 +4,29 @@ use Prim.Native.Nat.{ℕ, ◌+◌}
 use mathlib.Core.List.{[], ◌∷◌}
 use Rattle.csp.specs.Table.{move}
 use Rattle.tables.specs.Putting.{move_bytes, into}
+use Rattle.normal.specs.declared.form.Form.{Form}
 use Rattle.watchdog.specs.Rows.{node_moves}
 use Rattle.tables.proofs.Putting.{moves_more}
 use Rattle.watchdog.proofs.Splicing.{nodes-none, nodes-next, nodes-length, rows_fit}
-use Rattle.watchdog.proofs.put.put_moves.Goals as goal
+use Rattle.watchdog.proofs.put.Watched.put_moves.Goals as goal
 
 pub loop-i-init : goal.loop-i-init
-loop-i-init c = let f = c.args.form.now in
-    nodes-none f.next f.count f.events c.args.ms.now
-
-pub put_node-requires : goal.put_node-requires
-put_node-requires c = let f = c.args.form.now in
-    let r = rows_fit c.loop-i.i f.count f.events c.loop-i-test.true in
-    record { room = omega arith; count_fits = c.requires.count_fits; events_fit = c.requires.events_fit; i_fits = omega arith }
+loop-i-init c = nodes-none _ _ _ _
 
 pub loop-i-preserved : goal.loop-i-preserved
-loop-i-preserved c = let f = c.args.form.now in
+loop-i-preserved c = let f = c.args.self.now in
     let l = c.loop-i in
-    let r = rows_fit l.i f.count f.events c.loop-i-test.true in
-    nodes-next f.next f.count f.events l.i c.args.ms.now l.ms _ l.invariant refl (omega arith) c.put_node.ensures
+    let k = ap (λ (g : Form). g.count) c.self.view_is in
+    let r = rows_fit l.i f.count f.events (omega (arith, k)) in
+    nodes-next f.next f.count f.events l.i c.args.ms.now l.ms _ l.invariant refl (omega arith) (rw c.self.view_is at c.put_node.ensures)
 
 pub returns : goal.returns
-returns c = let f = c.args.form.now in
+returns c = let f = c.args.self.now in
     let l = c.loop-i in
-    let e : l.i ≡ f.count = omega arith in
+    let k = ap (λ (g : Form). g.count) c.self.view_is in
+    let e : l.i ≡ f.count = omega (arith, k) in
     let n = nodes-length f.next f.count f.events f.count in
     moves_more 0 (node_moves f.next f.count f.events f.count) (move f.count (f.events + 1) f.count ∷ []) c.args.ms.now l.ms _
     (l.invariant
     ∙ ap (λ (i : ℕ). into 0 (move_bytes (node_moves f.next f.count f.events i)) c.args.ms.now) e)
-    (omega arith) (omega arith) c.put_move.ensures
+    (omega arith) (omega arith) (rw c.self.view_is at c.put_move.ensures)
