@@ -3,12 +3,11 @@ use Prim.Native.Nat.{ℕ, zero, suc}
 use mathlib.Core.Path.{◌≡◌, refl, ap, sym, subst, ◌∙◌}
 use mathlib.Core.List.{List}
 use lib.ListN.{get_or}
+use Rattle.std.specs.Prelude.{Result, Ok, Err}
 use Rattle.tables.specs.declared.answer.Refusal.{Refusal}
 use Rattle.tables.specs.declared.answer.Refusal.TheVariants.{Rule, Flow, Call}
-use Rattle.tables.specs.declared.answer.Built.{Built}
-use Rattle.tables.specs.declared.answer.Built.TheVariants as built
-use Rattle.tables.specs.declared.answer.Read.{Read}
-use Rattle.tables.specs.declared.answer.Read.TheVariants as read
+use Rattle.tables.specs.declared.answer.Header.{Header}
+use Rattle.tables.specs.Answers.{head}
 use Rattle.refine.specs.declared.verdict.Verdict.{Verdict}
 use Rattle.refine.specs.declared.verdict.Verdict.TheVariants as verdict
 use Rattle.rhythmoxa.specs.Layout.{refused_numbers, read_numbers, built_numbers, part_numbers, verdict_numbers}
@@ -22,13 +21,13 @@ refusal_by (suc (suc w)) k = Flow k
 abbrev refusal_from : List ℕ → Refusal
 refusal_from l = refusal_by (get_or l 1 0) (get_or l 2 0)
 
-abbrev read_by : ℕ → List ℕ → Read
-read_by zero l = read.Refused (refusal_from l)
-read_by (suc kind) l = read.Table (get_or l 3 0) (get_or l 4 0) (get_or l 5 0) (get_or l 6 0)
+abbrev read_by : ℕ → List ℕ → Result Header Refusal
+read_by zero l = Err (refusal_from l)
+read_by (suc kind) l = Ok (head (get_or l 3 0) (get_or l 4 0) (get_or l 5 0) (get_or l 6 0))
 
-abbrev built_by : ℕ → List ℕ → Built
-built_by zero l = built.Refused (refusal_from l)
-built_by (suc kind) l = built.Wrote (get_or l 3 0)
+abbrev built_by : ℕ → List ℕ → Result ℕ Refusal
+built_by zero l = Err (refusal_from l)
+built_by (suc kind) l = Ok (get_or l 3 0)
 
 abbrev verdict_by : ℕ → List ℕ → Verdict
 verdict_by zero l = verdict.Refused (refusal_from l)
@@ -42,13 +41,13 @@ refusal_back (Call k) = refl
 refusal_back (Rule k) = refl
 refusal_back (Flow k) = refl
 
-read_back : (a : Read) → read_by (get_or (read_numbers a) 0 0) (read_numbers a) ≡ a
-read_back (read.Table n E s m) = refl
-read_back (read.Refused w) = ap read.Refused (refusal_back w)
+read_back : (a : Result Header Refusal) → read_by (get_or (read_numbers a) 0 0) (read_numbers a) ≡ a
+read_back (Ok h) = refl
+read_back (Err w) = rw (refusal_back w)
 
-built_back : (a : Built) → built_by (get_or (built_numbers a) 0 0) (built_numbers a) ≡ a
-built_back (built.Wrote size) = refl
-built_back (built.Refused w) = ap built.Refused (refusal_back w)
+built_back : (a : Result ℕ Refusal) → built_by (get_or (built_numbers a) 0 0) (built_numbers a) ≡ a
+built_back (Ok size) = refl
+built_back (Err w) = rw (refusal_back w)
 
 verdict_back : (a : Verdict) → verdict_by (get_or (verdict_numbers a) 0 0) (verdict_numbers a) ≡ a
 verdict_back (verdict.Passes n p) = refl

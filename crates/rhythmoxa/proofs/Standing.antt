@@ -14,8 +14,7 @@ use Rattle.tables.specs.Bytes.{count}
 use Rattle.tables.specs.Valid.{disordered, refusal}
 use Rattle.tables.specs.State.{unless_refused, of_state, moves_of}
 use Rattle.tables.specs.Seek.{Seeks}
-use Rattle.tables.specs.declared.answer.Test.{Test}
-use Rattle.tables.specs.declared.answer.Test.TheVariants.{Clear, Refuses}
+use Rattle.std.specs.Prelude.{Option, None, Some}
 use Rattle.tables.proofs.Order.{rising}
 use Rattle.tables.proofs.PartOf.{part_is}
 use Rattle.tables.proofs.PartMoves.{part_bytes}
@@ -81,13 +80,18 @@ module _ (ms : List ℕ) (m : ℕ) (ascending : disordered (move_at ms) m ≡ fa
           ap (λ (n : ℕ). take n (drop (6 * i) ms)) (sym (ap length e) ∙ l) ∙ e
 
 -- a state that has moves is a state of a table that is not refused
-has_moves : (t : List ℕ) (s : ℕ) → 0 < length (moves_of t s) → refusal t ≡ Clear
+has_moves : (t : List ℕ) (s : ℕ) → 0 < length (moves_of t s) → refusal t ≡ None
 unfolding moves_of
 has_moves t s h = known (refusal t) _ h
   where
-    known : (x : Test) (l : List ℕ) → 0 < length (unless_refused x l) → x ≡ Clear
-    known Clear l g = refl
-    known (Refuses k) l g = absurd (omega arith)
+    known : (x : Option ℕ) (l : List ℕ) → 0 < length (unless_refused x l) → x ≡ None
+    known None l g = refl
+    known (Some k) l g = absurd (omega arith)
+
+-- a table that is refused has none
+pub moves_refused : (t : List ℕ) (s : ℕ) {k : ℕ} → refusal t ≡ Some k → moves_of t s ≡ []
+unfolding moves_of
+moves_refused t s e = rw e
 
 no_bytes : (l : List ℕ) → length l ≡ 0 → l ≡ []
 no_bytes [] e = refl

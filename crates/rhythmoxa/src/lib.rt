@@ -5,7 +5,7 @@
 ghost use Rattle.rhythmoxa.specs.Calls.{ReadTold, WriteTold, PartTold, CheckTold, ShortTold, JoinTold, WatchdogTold};
 
 use joins::join;
-use numbers::{of_built, of_part, of_read, of_verdict};
+use numbers::Answer;
 use place::place_of;
 use refine::check::{check, check_short};
 use tables::read::read;
@@ -20,7 +20,7 @@ mod place;
 pub extern "C" fn rhx_read(table: &[u8], list: &mut [u16], answer: &mut [u64; 8])
     ensures { ReadTold table.now list.old list.new answer.new }
 {
-    *answer = of_read(read(table, list));
+    *answer = read(table, list).numbers();
 }
 
 // Writes a table of n, E, start and a list of moves.
@@ -35,7 +35,7 @@ pub extern "C" fn rhx_write(
 )
     ensures { WriteTold n e start list.now out.old out.new answer.new }
 {
-    *answer = of_built(write(n, e, start, list, out));
+    *answer = write(n, e, start, list, out).numbers();
 }
 
 // Says where the moves of one state stand in their table.
@@ -43,7 +43,7 @@ pub extern "C" fn rhx_write(
 pub extern "C" fn rhx_moves_of(table: &[u8], state: u16, answer: &mut [u64; 8])
     ensures { PartTold table.now state answer.new }
 {
-    *answer = of_part(place_of(table, state));
+    *answer = place_of(table, state).numbers();
 }
 
 // Checks a flow against a rule in a mode.
@@ -59,7 +59,7 @@ pub extern "C" fn rhx_check(
 )
     ensures { CheckTold rule.now flow.now mode work16.old work64.old trace.old work16.new work64.new trace.new answer.new }
 {
-    *answer = of_verdict(check(rule, flow, mode, work16, work64, trace));
+    *answer = check(rule, flow, mode, work16, work64, trace).numbers();
 }
 
 // Checks a flow against a rule: the short form.
@@ -74,7 +74,7 @@ pub extern "C" fn rhx_check_short(
 )
     ensures { ShortTold rule.now flow.now work16.old work64.old trace.old work16.new work64.new trace.new answer.new }
 {
-    *answer = of_verdict(check_short(rule, flow, work16, work64, trace));
+    *answer = check_short(rule, flow, work16, work64, trace).numbers();
 }
 
 // Joins two tables on a set of events, event e as 2 to the power e.
@@ -88,7 +88,7 @@ pub extern "C" fn rhx_join(
 )
     ensures { JoinTold first.now second.now set out.old out.new answer.new }
 {
-    *answer = of_built(join(first, second, set, out));
+    *answer = join(first, second, set, out).numbers();
 }
 
 // Builds the watchdog of a rule.
@@ -102,5 +102,5 @@ pub extern "C" fn rhx_watchdog(
 )
     ensures { WatchdogTold rule.now work16.old work64.old out.old work16.new work64.new out.new answer.new }
 {
-    *answer = of_built(watchdog(rule, work16, work64, out));
+    *answer = watchdog(rule, work16, work64, out).numbers();
 }

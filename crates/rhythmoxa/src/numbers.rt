@@ -1,94 +1,112 @@
 // An answer as eight numbers. Every value has one place: 0 the kind, 1 whose a refusal is, 2 its number, from 3 on the values.
-ghost use Rattle.std.specs.Prelude.{◌≡◌};
-ghost use Rattle.rhythmoxa.specs.Layout.{values, refused_numbers, read_numbers, built_numbers, part_numbers, verdict_numbers};
+ghost use Rattle.std.specs.Prelude.{◌≡◌, ℕ, List};
+ghost use Rattle.rhythmoxa.specs.Layout.{kind_number, values, refused_numbers, answer_numbers, header_numbers, size_numbers, part_numbers, verdict_numbers};
 
 use crate::place::Part;
 use refine::verdict::Verdict;
-use tables::answer::{Built, Read, Refusal};
+use tables::answer::{Header, Refusal};
 
 // The kinds.
-const REFUSED: u64 = 0;
-
-const DONE: u64 = 1;
-
-const PASSES: u64 = 2;
-
-const TRACE_FAULT: u64 = 3;
-
-const REFUSAL_FAULT: u64 = 4;
-
-// Whose a refusal is.
-const CALL: u64 = 0;
-
-const RULE: u64 = 1;
-
-const FLOW: u64 = 2;
+#[derive(Clone, Copy)]
+enum Kind {
+    Refused = 0,
+    Done = 1,
+    Passes = 2,
+    TraceFault = 3,
+    RefusalFault = 4,
+}
 
 // A kind that is no refusal, with its values.
-fn values(kind: u64, a: u64, b: u64, c: u64, d: u64) -> [u64; 8]
-    ensures { result ≡ values kind a b c d }
+fn values(kind: Kind, a: u64, b: u64, c: u64, d: u64) -> [u64; 8]
+    ensures { result ≡ values (kind_number kind) a b c d }
 {
-    [kind, 0, 0, a, b, c, d, 0]
+    [kind as u64, 0, 0, a, b, c, d, 0]
 }
 
-fn of_refusal(refusal: Refusal) -> [u64; 8]
-    ensures { result ≡ refused_numbers refusal }
-{
-    match refusal {
-        Refusal::Call(number) => [REFUSED, CALL, number as u64, 0, 0, 0, 0, 0],
-        Refusal::Rule(number) => [REFUSED, RULE, number as u64, 0, 0, 0, 0, 0],
-        Refusal::Flow(number) => [REFUSED, FLOW, number as u64, 0, 0, 0, 0, 0],
+// What a call answers.
+pub trait Answer {
+    ghost told: { Self → List ℕ };
+
+    fn numbers(self) -> [u64; 8]
+        ensures { result ≡ told self };
+}
+
+impl Answer for Refusal {
+    ghost told = { refused_numbers };
+
+    fn numbers(self) -> [u64; 8] {
+        let kind = Kind::Refused as u64;
+        let whose = u64::from(self.whose());
+        let number = u64::from(self.number());
+        [kind, whose, number, 0, 0, 0, 0, 0]
     }
 }
 
-pub fn of_read(answer: Read) -> [u64; 8]
-    ensures { result ≡ read_numbers answer }
-{
-    match answer {
-        Read::Table {
-            states,
-            events,
-            start,
-            moves,
-        } => values(
-            DONE,
-            states as u64,
-            events as u64,
-            start as u64,
-            moves as u64,
-        ),
-        Read::Refused(refusal) => of_refusal(refusal),
+// What a call gives back where it is not refused.
+impl<T: Answer> Answer for Result<T, Refusal> {
+    ghost told = { answer_numbers T.told };
+
+    fn numbers(self) -> [u64; 8] {
+        match self {
+            Ok(given) => given.numbers(),
+            Err(refusal) => refusal.numbers(),
+        }
     }
 }
 
-pub fn of_built(answer: Built) -> [u64; 8]
-    ensures { result ≡ built_numbers answer }
-{
-    match answer {
-        Built::Wrote(size) => values(DONE, size as u64, 0, 0, 0),
-        Built::Refused(refusal) => of_refusal(refusal),
+// The reader's.
+impl Answer for Header {
+    ghost told = { header_numbers };
+
+    fn numbers(self) -> [u64; 8] {
+        values(
+            Kind::Done,
+            u64::from(self.states),
+            u64::from(self.events),
+            u64::from(self.start),
+            self.moves as u64,
+        )
     }
 }
 
-pub fn of_part(part: Part) -> [u64; 8]
-    ensures { result ≡ part_numbers part }
-{
-    values(DONE, part.offset as u64, part.size as u64, 0, 0)
+// A builder's: the length written.
+impl Answer for usize {
+    ghost told = { size_numbers };
+
+    fn numbers(self) -> [u64; 8] {
+        values(Kind::Done, self as u64, 0, 0, 0)
+    }
 }
 
-pub fn of_verdict(answer: Verdict) -> [u64; 8]
-    ensures { result ≡ verdict_numbers answer }
-{
-    match answer {
-        Verdict::Passes { nodes, pairs } => values(PASSES, nodes as u64, pairs as u64, 0, 0),
-        Verdict::TraceFault { length } => values(TRACE_FAULT, length as u64, 0, 0, 0),
-        Verdict::RefusalFault { length, offers } => values(
-            REFUSAL_FAULT,
-            length as u64,
-            offers,
-            0,
-            0,
-        ),
-        Verdict::Refused(refusal) => of_refusal(refusal),
+impl Answer for Part {
+    ghost told = { part_numbers };
+
+    fn numbers(self) -> [u64; 8] {
+        values(Kind::Done, self.offset as u64, self.size as u64, 0, 0)
+    }
+}
+
+impl Answer for Verdict {
+    ghost told = { verdict_numbers };
+
+    fn numbers(self) -> [u64; 8] {
+        match self {
+            Verdict::Passes { nodes, pairs } => values(
+                Kind::Passes,
+                nodes as u64,
+                pairs as u64,
+                0,
+                0,
+            ),
+            Verdict::TraceFault { length } => values(Kind::TraceFault, length as u64, 0, 0, 0),
+            Verdict::RefusalFault { length, offers } => values(
+                Kind::RefusalFault,
+                length as u64,
+                offers,
+                0,
+                0,
+            ),
+            Verdict::Refused(refusal) => refusal.numbers(),
+        }
     }
 }
