@@ -1,66 +1,40 @@
-// The fields of a line, which stand one space apart.
-ghost use Rattle.std.specs.Prelude.{◌≤◌, length};
+// The lines of the input, each answered as it ends.
+use crate::call;
+use crate::call::TOO_LONG;
+use crate::field::LineError;
+use std::alloc::{AllocError, Global};
 
-// Where the field ends that begins at `from`: at the next space, or where the line ends.
-fn end_of(line: &[u8], from: usize) -> usize
-    requires { from ≤ length line.now }
-    ensures { (from ≤ result) × (result ≤ length line.now) }
-{
-    let mut i = from;
-    while i < line.len() {
-        if line[i] == b' ' {
-            return i;
+// Prints the answer to a line. One that can't be written is passed over.
+pub fn respond(rt: &impl Print, alloc: Global, line: &[u8]) -> Result<(), AllocError> {
+    let mut text = match call::answer(alloc, line) {
+        Ok(text) => text,
+        Err(LineError::Bad) => String::from_str(alloc, "bad")?,
+        Err(LineError::OutOfMemory) => return Err(AllocError),
+    };
+    text.push('\n')?;
+    let _ = rt.write_all(text.as_bytes());
+    Ok(())
+}
+
+// Adds to a line. What is longer than a line can be is left out, and then too long all the same.
+fn extend(line: &mut Vec<u8>, piece: &[u8]) -> Result<(), AllocError> {
+    let room = TOO_LONG.saturating_sub(line.len());
+    line.extend_from_slice(&piece[..room.min(piece.len())])
+}
+
+// Takes a block of the input: each of its pieces but the first stands behind a line feed, which ends the line before it.
+pub fn take_in(
+    rt: &impl Print,
+    alloc: Global,
+    block: &[u8],
+    line: &mut Vec<u8>,
+) -> Result<(), AllocError> {
+    for (i, piece) in block.split(|b| *b == b'\n').enumerate() {
+        if i > 0 {
+            respond(rt, alloc, line.as_slice())?;
+            line.clear();
         }
-        i += 1;
+        extend(line, piece)?;
     }
-    i
-}
-
-// Where the next field begins.
-fn past(line: &[u8], from: usize) -> usize
-    requires { from ≤ length line.now }
-    ensures { result ≤ length line.now }
-{
-    let end = end_of(line, from);
-    if end < line.len() {
-        return end + 1;
-    }
-    end
-}
-
-// Where field k begins.
-fn start_of(line: &[u8], k: usize) -> usize
-    ensures { result ≤ length line.now }
-{
-    let mut at = 0;
-    let mut i = 0;
-    while i < k {
-        at = past(line, at);
-        i += 1;
-    }
-    at
-}
-
-// Field k, the call's word being field 0; empty where the line has no such field.
-pub fn field(line: &[u8], k: usize) -> &[u8] {
-    let start = start_of(line, k);
-    let end = end_of(line, start);
-    &line[start..end]
-}
-
-fn is_space(b: u8) -> usize
-    ensures { result ≤ 1 }
-{
-    if b == b' ' { 1 } else { 0 }
-}
-
-// How many spaces the line has.
-pub fn spaces(line: &[u8]) -> usize {
-    let mut n = 0;
-    let mut i = 0;
-    while i < line.len() {
-        n += is_space(line[i]);
-        i += 1;
-    }
-    n
+    Ok(())
 }

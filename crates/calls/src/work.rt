@@ -1,72 +1,72 @@
 // The workspaces that a call is lent: what they hold before it, and their fields after it.
-use crate::pen;
+use crate::field;
+use crate::field::LineError;
+use std::alloc::Global;
+use std::fmt;
+use std::fmt::{Formatter, Write};
+
+// The greatest lengths of the two workspaces.
+const LENGTH_16: usize = 32_800;
+
+const LENGTH_64: usize = 160;
 
 // What place i holds before the call, for the junk that the call names.
 fn junk_at(junk: u16, i: usize) -> u16 {
     if junk == 0 {
         return 0;
     }
-    ((junk as usize + i % 65536) % 65536) as u16
+    junk.wrapping_add((i & 0xffff) as u16)
 }
 
-fn four_times(v: u16) -> u64 {
-    (v as u64) * 281479271743489
+// Both workspaces. In the one of 64-bit numbers a place holds its junk four times over.
+#[derive(Drop)]
+pub struct Workspaces {
+    pub of_16: Vec<u16>,
+    pub of_64: Vec<u64>,
 }
 
-fn fill_16(junk: u16, work: &mut [u16]) {
-    let mut i = 0;
-    while i < work.len() {
-        work[i] = junk_at(junk, i);
-        i += 1;
+impl Workspaces {
+    // What the call's fields `len16 len64 junk` name.
+    pub fn new(alloc: Global, fields: &[&[u8]]) -> Result<Workspaces, LineError> {
+        let [length_16, length_64, junk] = fields else {
+            return Err(LineError::Bad);
+        };
+        let length_16 = field::length(length_16, LENGTH_16)?;
+        let length_64 = field::length(length_64, LENGTH_64)?;
+        let junk = field::number(junk)?;
+        Ok(Workspaces {
+            of_16: (0..length_16).map(|i| junk_at(junk, i)).collect(alloc)?,
+            of_64: (0..length_64)
+                .map(|i| u64::from(junk_at(junk, i)) * 0x0001_0001_0001_0001)
+                .collect(alloc)?,
+        })
     }
 }
 
-fn fill_64(junk: u16, work: &mut [u64]) {
-    let mut i = 0;
-    while i < work.len() {
-        work[i] = four_times(junk_at(junk, i));
-        i += 1;
+// A workspace's field: `zero`, or the first place that is not.
+#[derive(Clone, Copy)]
+struct Place(Option<usize>);
+
+impl Place {
+    fn of<N: Copy + Default + PartialEq>(work: &[N]) -> Place {
+        let zero = N::default();
+        Place(work.iter().position(|n| *n != zero))
     }
 }
 
-// Fills both workspaces with the junk that the call names.
-pub fn fill(junk: u16, work_16: &mut [u16], work_64: &mut [u64]) {
-    fill_16(junk, work_16);
-    fill_64(junk, work_64);
-}
-
-// The first place that is not zero; the length where there is none.
-fn first_16(work: &[u16]) -> usize {
-    let mut i = 0;
-    while i < work.len() {
-        if work[i] != 0 {
-            return i;
+impl fmt::Display for Place {
+    fn fmt<W: Write>(&self, f: &mut Formatter<W>) -> fmt::Result {
+        match self.0 {
+            Some(i) => write!(f, "{i}"),
+            None => write!(f, "zero"),
         }
-        i += 1;
     }
-    i
 }
 
-fn first_64(work: &[u64]) -> usize {
-    let mut i = 0;
-    while i < work.len() {
-        if work[i] != 0 {
-            return i;
-        }
-        i += 1;
+impl fmt::Display for Workspaces {
+    fn fmt<W: Write>(&self, f: &mut Formatter<W>) -> fmt::Result {
+        let of_16 = Place::of(&self.of_16);
+        let of_64 = Place::of(&self.of_64);
+        write!(f, "{of_16} {of_64}")
     }
-    i
-}
-
-fn place(first: usize, length: usize, at: usize, out: &mut [u8]) -> usize {
-    if first < length {
-        return pen::number(first as u64, at, out);
-    }
-    pen::word(b" zero", at, out)
-}
-
-// The fields of both workspaces: `zero`, or the first place that is not.
-pub fn told(work_16: &[u16], work_64: &[u64], at: usize, out: &mut [u8]) -> usize {
-    let p = place(first_16(work_16), work_16.len(), at, out);
-    place(first_64(work_64), work_64.len(), p, out)
 }
