@@ -1,4 +1,5 @@
 -- Laws; the rooms above cite Unique.
+pub mod Bounds
 pub mod Finding
 pub mod Collecting
 pub mod Counting

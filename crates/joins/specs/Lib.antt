@@ -1,4 +1,4 @@
--- In the order a newcomer would read them; the last three are for inner functions only.
+-- In the order a newcomer would read them; all but the first are for inner functions only.
 pub mod Joining
 -- No promise rests on what follows: it is for inner functions.
 pub mod Next
