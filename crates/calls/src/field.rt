@@ -10,12 +10,12 @@ use std::str::FromStr;
 pub enum LineError {
     // It does not follow the protocol.
     Bad,
-    OutOfMemory,
+    OutOfMemory(AllocError),
 }
 
 impl From<AllocError> for LineError {
-    fn from(_e: AllocError) -> LineError {
-        LineError::OutOfMemory
+    fn from(e: AllocError) -> LineError {
+        LineError::OutOfMemory(e)
     }
 }
 

@@ -9,7 +9,7 @@ pub fn respond(rt: &impl Print, alloc: Global, line: &[u8]) -> Result<(), AllocE
     let mut text = match call::answer(alloc, line) {
         Ok(text) => text,
         Err(LineError::Bad) => String::from_str(alloc, "bad")?,
-        Err(LineError::OutOfMemory) => return Err(AllocError),
+        Err(LineError::OutOfMemory(e)) => return Err(e),
     };
     text.push('\n')?;
     let _ = rt.write_all(text.as_bytes());
