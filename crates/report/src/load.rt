@@ -8,7 +8,8 @@ use std::{fs, str};
 // One byte more than the longest table has (12 + 6 × 4,096): a file that fills this much is over 24,588 bytes.
 pub const ROOM: usize = 24589;
 
-// Reads a file to its end, and hands back what it holds; none where a read fails, or where the file fills the buffer.
+// Reads a file to its end, and hands back what it holds; none where a read fails, or where the file fills the buffer. A loop of
+// its own, since the library's read_to_end takes a heap, of which the project has none.
 fn read_whole<'b, F: Read>(file: &mut F, buf: &'b mut [u8]) -> Option<&'b [u8]>
     ensures { IfSome result (λ t. length t.now ≤ length buf.old - 1) }
 {
@@ -32,7 +33,8 @@ fn read_at<'b, R: Files>(rt: &R, path: &[u8], buf: &'b mut [u8]) -> Option<&'b [
     read_whole(&mut file, buf)
 }
 
-// Reads the table in a file; a file that can't be read, or fills the buffer, counts as an empty table.
+// Reads the table in a file; a file that can't be read, or fills the buffer, counts as an empty table. The path stays bytes: text
+// alone would ask more of a caller.
 pub fn load<'b, R: Files>(rt: &R, path: &[u8], buf: &'b mut [u8]) -> &'b [u8]
     ensures { length result.now ≤ length buf.old - 1 }
 {

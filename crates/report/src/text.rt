@@ -20,7 +20,7 @@ fn line_of(rule: &[u8], flow: &[u8], mode: u16, out: &mut [u8]) -> usize
     line(verdict, &trace, mode, out).unwrap_or(0)
 }
 
-// Both lines, mode 0 first.
+// Both lines, mode 0 first. The answer stays their length, as ReportCall has it (docs/ARCHITECTURE.md).
 pub fn two_lines(rule: &[u8], flow: &[u8], out: &mut [u8]) -> usize
     requires { 100000 ≤ length out.old }
     ensures { ReportCall rule.now flow.now out.old result out.new }
