@@ -40,6 +40,7 @@ pub fn length(field: &[u8], most: usize) -> Result<usize, LineError> {
     Ok(n)
 }
 
+// By hand: the library's `to_digit` takes capitals too, which the protocol refuses.
 fn digit(b: u8) -> Result<u8, LineError>
     ensures { IfOk result (λ d. d < 16) }
 {

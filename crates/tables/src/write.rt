@@ -18,7 +18,8 @@ pub fn put_header(n: u16, e: u16, start: u16, m: u16, out: &mut [u8])
     put_all(out, &[n, e, start, m, 12, 0]);
 }
 
-// Puts a move at byte `at` of the part that is lent for moves.
+// Puts a move at byte `at` of the part that is lent for moves. Its numbers come one by one: who calls has no Move, and to make one
+// would be no plainer.
 pub fn put_move(ms: &mut [u8], at: usize, from: usize, event: usize, to: usize)
     requires room { at + 6 ≤ length ms.old }
     requires numbers_fit { (from < 65536) × ((event < 65536) × (to < 65536)) }
@@ -27,7 +28,7 @@ pub fn put_move(ms: &mut [u8], at: usize, from: usize, event: usize, to: usize)
     put_all(&mut ms[at..], &[from as u16, event as u16, to as u16]);
 }
 
-// Puts the header, and the moves into the rest of the buffer.
+// Puts the header, and the moves into the rest of the buffer, of what `write` was given.
 fn put_table(n: u16, e: u16, start: u16, list: &[u16], out: &mut [u8])
     requires { (12 + 2 * length list.now ≤ length out.old) × ((length list.now / 3 ≤ 4096) × (length list.now % 3 ≡ 0)) }
     ensures { out.new ≡ over (encoded (table_from n e start list.now)) out.old }
