@@ -1,225 +1,164 @@
-// One call each, with buffers full of junk, and a line that tells its answer and what it left in the buffers. The line begins
-// with the words that it is given.
-use crate::lent::Lent;
-use crate::{lent, show, tell};
+// One call each, with buffers full of junk, and a line that tells its answer and what it left in the buffers.
+use crate::lent::{JUNK, JUNK_16, Kept, Room, Workspaces, beside};
+use crate::show;
 use refine::verdict::Verdict;
-use std::io;
-
-fn judged(
-    rt: &impl Print,
-    answer: Verdict,
-    mode: u16,
-    work_16: &[u16],
-    work_64: &[u64],
-    trace: &[u8],
-) -> io::Result<()> {
-    tell::verdict(rt, answer, mode, trace)?;
-    lent::cleared(rt, work_16, work_64)?;
-    show::word(rt, b"\n")?;
-    Ok(())
-}
-
-fn asked(
-    rt: &impl Print,
-    about: &[u8],
-    rule: &[u8],
-    flow: &[u8],
-    mode: u16,
-    work_16: &mut [u16],
-    work_64: &mut [u64],
-    trace: &mut [u8],
-) -> io::Result<()> {
-    show::word(rt, about)?;
-    let answer = refine::check::check(rule, flow, mode, work_16, work_64, trace);
-    judged(rt, answer, mode, work_16, work_64, trace)?;
-    Ok(())
-}
-
-// The check in one mode.
-pub fn check(
-    rt: &impl Print,
-    about: &[u8],
-    rule: &[u8],
-    flow: &[u8],
-    mode: u16,
-    room: Lent,
-) -> io::Result<()> {
-    let mut work_16 = [lent::JUNK_16; 32800];
-    let mut work_64 = [lent::JUNK_64; 160];
-    let mut trace = [lent::JUNK; 16400];
-    let a = lent::least(room.work_16, 32800);
-    let b = lent::least(room.work_64, 160);
-    let k = lent::least(room.buffer, 16400);
-    asked(
-        rt,
-        about,
-        rule,
-        flow,
-        mode,
-        &mut work_16[0..a],
-        &mut work_64[0..b],
-        &mut trace[0..k],
-    )?;
-    Ok(())
-}
-
-// The check in both modes.
-pub fn both(rt: &impl Print, about: &[u8], rule: &[u8], flow: &[u8]) -> io::Result<()> {
-    check(rt, about, rule, flow, 0, lent::beside(20))?;
-    check(rt, about, rule, flow, 1, lent::beside(20))?;
-    Ok(())
-}
-
-fn shortly(
-    rt: &impl Print,
-    about: &[u8],
-    rule: &[u8],
-    flow: &[u8],
-    work_16: &mut [u16],
-    work_64: &mut [u64],
-    trace: &mut [u8],
-) -> io::Result<()> {
-    show::word(rt, about)?;
-    let answer = refine::check::check_short(rule, flow, work_16, work_64, trace);
-    judged(rt, answer, 0, work_16, work_64, trace)?;
-    Ok(())
-}
-
-// The short form of the check.
-pub fn check_short(rt: &impl Print, about: &[u8], rule: &[u8], flow: &[u8]) -> io::Result<()> {
-    let mut work_16 = [lent::JUNK_16; 32768];
-    let mut work_64 = [lent::JUNK_64; 128];
-    let mut trace = [lent::JUNK; 20];
-    shortly(
-        rt,
-        about,
-        rule,
-        flow,
-        &mut work_16,
-        &mut work_64,
-        &mut trace,
-    )?;
-    Ok(())
-}
-
-fn given(rt: &impl Print, about: &[u8], table: &[u8], list: &mut [u16]) -> io::Result<()> {
-    show::word(rt, about)?;
-    let answer = tables::read::read(table, list);
-    tell::read(rt, answer, list)?;
-    show::word(rt, b"\n")?;
-    Ok(())
-}
-
-// The reader, with a list of n numbers.
-pub fn read(rt: &impl Print, about: &[u8], table: &[u8], n: usize) -> io::Result<()> {
-    let mut list = [lent::JUNK_16; 12300];
-    let k = lent::least(n, 12300);
-    given(rt, about, table, &mut list[0..k])?;
-    Ok(())
-}
+use std::alloc::{AllocError, Global};
+use std::fmt::Display;
+use std::{fmt, io};
+use tables::answer::Refusal;
 
 // A table's header: how many states and events it has, and where it starts.
 #[derive(Clone, Copy)]
-pub struct Head {
-    pub states: u16,
-    pub events: u16,
-    pub start: u16,
+pub(crate) struct Head {
+    pub(crate) states: u16,
+    pub(crate) events: u16,
+    pub(crate) start: u16,
 }
 
-fn wrote(
-    rt: &impl Print,
-    about: &[u8],
-    head: Head,
-    list: &[u16],
-    out: &mut [u8],
-) -> io::Result<()> {
-    show::word(rt, about)?;
-    let answer = tables::write::write(head.states, head.events, head.start, list, out);
-    tell::built(rt, answer, out)?;
-    show::word(rt, b"\n")?;
-    Ok(())
+impl Head {
+    // Writes the table of this header and a list of moves.
+    pub(crate) fn write(self, list: &[u16], out: &mut [u8]) -> Result<usize, Refusal> {
+        tables::write::write(self.states, self.events, self.start, list, out)
+    }
 }
 
-// The writer, with a result buffer of n bytes.
-pub fn write(rt: &impl Print, about: &[u8], head: Head, list: &[u16], n: usize) -> io::Result<()> {
-    let mut out = [lent::JUNK; 24600];
-    let k = lent::least(n, 24600);
-    wrote(rt, about, head, list, &mut out[0..k])?;
-    Ok(())
+// A public call with what it is given, and last how long the buffers are that it is lent.
+#[derive(Clone, Copy)]
+pub(crate) enum Call<'a> {
+    // Rule, flow and mode.
+    Check(&'a [u8], &'a [u8], u16, Room),
+    // Rule and flow: the short form of the check.
+    CheckShort(&'a [u8], &'a [u8], Room),
+    Read(&'a [u8], usize),
+    Write(Head, &'a [u16], usize),
+    MovesOf(&'a [u8], u16),
+    // Two tables and the set of events on which they are joined.
+    Join(&'a [u8], &'a [u8], u64, usize),
+    Watchdog(&'a [u8], Room),
 }
 
-// The moves of one state.
-pub fn moves_of(rt: &impl Print, about: &[u8], table: &[u8], state: u16) -> io::Result<()> {
-    show::word(rt, about)?;
-    show::word(rt, b" part")?;
-    show::number(rt, state as u64)?;
-    show::word(rt, b":")?;
-    show::table(rt, tables::state::moves_of(table, state))?;
-    show::word(rt, b"\n")?;
-    Ok(())
+// What a check answered, its line, and what it left in the buffers.
+#[derive(Drop)]
+pub(crate) struct Checked {
+    pub(crate) verdict: Verdict,
+    pub(crate) line: String,
+    trace: Vec<u8>,
+    spaces: Workspaces,
 }
 
-fn composed(
-    rt: &impl Print,
-    about: &[u8],
-    first: &[u8],
-    second: &[u8],
-    set: u64,
-    out: &mut [u8],
-) -> io::Result<()> {
-    show::word(rt, about)?;
-    let answer = joins::join(first, second, set, out);
-    tell::built(rt, answer, out)?;
-    show::word(rt, b"\n")?;
-    Ok(())
+impl fmt::Display for Checked {
+    fn fmt<W: fmt::Write>(&self, f: &mut fmt::Formatter<W>) -> fmt::Result {
+        let kept = Kept::of(&self.trace, self.verdict.length(), JUNK);
+        write!(f, " {}{kept}{}", self.line, self.spaces)
+    }
 }
 
-// The composer, with a result buffer of n bytes.
-pub fn join(
-    rt: &impl Print,
-    about: &[u8],
-    first: &[u8],
-    second: &[u8],
-    set: u64,
-    n: usize,
-) -> io::Result<()> {
-    let mut out = [lent::JUNK; 24600];
-    let k = lent::least(n, 24600);
-    composed(rt, about, first, second, set, &mut out[0..k])?;
-    Ok(())
+// A check, as the caller chooses it, in workspaces and a trace buffer full of junk.
+pub(crate) fn judged<F: FnOnce(&mut [u16], &mut [u64], &mut [u8]) -> Verdict>(
+    alloc: Global,
+    mode: u16,
+    room: Room,
+    check: F,
+) -> Result<Checked, AllocError>
+    requires { F.IsAlwaysCallable check }
+{
+    let mut spaces = Workspaces::new(alloc, room)?;
+    let mut trace = vec![in alloc; JUNK; room.buffer]?;
+    let verdict = check(&mut spaces.work_16, &mut spaces.work_64, &mut trace);
+    let line = show::said(alloc, verdict, mode, &trace)?;
+    Ok(Checked {
+        verdict,
+        line,
+        trace,
+        spaces,
+    })
 }
 
-fn watched(
-    rt: &impl Print,
-    about: &[u8],
-    rule: &[u8],
-    work_16: &mut [u16],
-    work_64: &mut [u64],
-    out: &mut [u8],
-) -> io::Result<()> {
-    show::word(rt, about)?;
-    let answer = watchdog::ask::watchdog(rule, work_16, work_64, out);
-    tell::built(rt, answer, out)?;
-    lent::cleared(rt, work_16, work_64)?;
-    show::word(rt, b"\n")?;
-    Ok(())
+fn read(alloc: Global, table: &[u8], numbers: usize) -> Result<String, AllocError> {
+    let mut list = vec![in alloc; JUNK_16; numbers]?;
+    let answer = tables::read::read(table, &mut list);
+    show::read(alloc, answer, &list)
 }
 
-// The watchdog.
-pub fn watchdog(rt: &impl Print, about: &[u8], rule: &[u8], room: Lent) -> io::Result<()> {
-    let mut work_16 = [lent::JUNK_16; 32800];
-    let mut work_64 = [lent::JUNK_64; 160];
-    let mut out = [lent::JUNK; 24600];
-    let a = lent::least(room.work_16, 32800);
-    let b = lent::least(room.work_64, 160);
-    let k = lent::least(room.buffer, 24600);
-    watched(
-        rt,
-        about,
-        rule,
-        &mut work_16[0..a],
-        &mut work_64[0..b],
-        &mut out[0..k],
+fn moves_of(alloc: Global, table: &[u8], state: u16) -> Result<String, AllocError> {
+    let part = show::table(alloc, tables::state::moves_of(table, state))?;
+    format!(in alloc; " part {state}:{part}")
+}
+
+// A builder, as the caller chooses it, in a result buffer full of junk.
+fn built<F: FnOnce(&mut [u8]) -> Result<usize, Refusal>>(
+    alloc: Global,
+    bytes: usize,
+    build: F,
+) -> Result<String, AllocError>
+    requires { F.IsAlwaysCallable build }
+{
+    let mut out = vec![in alloc; JUNK; bytes]?;
+    let answer = build(&mut out);
+    show::built(alloc, answer, &out)
+}
+
+fn watchdog(alloc: Global, rule: &[u8], room: Room) -> Result<String, AllocError> {
+    let mut spaces = Workspaces::new(alloc, room)?;
+    let (work_16, work_64) = (&mut spaces.work_16, &mut spaces.work_64);
+    let told = built(
+        alloc,
+        room.buffer,
+        |out| watchdog::ask::watchdog(rule, work_16, work_64, out),
     )?;
+    format!(in alloc; "{told}{spaces}")
+}
+
+// Makes a call, and tells its answer and what it left in the buffers.
+fn told(alloc: Global, call: Call) -> Result<String, AllocError> {
+    match call {
+        Call::Check(rule, flow, mode, room) => judged(
+            alloc,
+            mode,
+            room,
+            |work_16, work_64, trace| {
+                refine::check::check(rule, flow, mode, work_16, work_64, trace)
+            },
+        )?
+        .to_string(alloc),
+        Call::CheckShort(rule, flow, room) => judged(alloc, 0, room, |work_16, work_64, trace| {
+            refine::check::check_short(rule, flow, work_16, work_64, trace)
+        })?
+        .to_string(alloc),
+        Call::Read(table, numbers) => read(alloc, table, numbers),
+        Call::Write(head, list, bytes) => built(alloc, bytes, |out| head.write(list, out)),
+        Call::MovesOf(table, state) => moves_of(alloc, table, state),
+        Call::Join(first, second, set, bytes) => {
+            built(alloc, bytes, |out| joins::join(first, second, set, out))
+        }
+        Call::Watchdog(rule, room) => watchdog(alloc, rule, room),
+    }
+}
+
+// Makes a call, and prints its line, which begins with the words that are given.
+pub(crate) fn ask(
+    rt: &(impl Print + AllocGlobal),
+    about: impl Display + Drop,
+    call: Call,
+) -> io::Result<()> {
+    let told = told(rt.alloc(), call)?;
+    println!(rt; "{about}{told}")
+}
+
+// The check in both modes.
+pub(crate) fn both(
+    rt: &(impl Print + AllocGlobal),
+    about: impl Display + Drop,
+    rule: &[u8],
+    flow: &[u8],
+) -> io::Result<()> {
+    let about = about.to_string(rt.alloc())?;
+    for mode in [0, 1] {
+        ask(
+            rt,
+            about.as_str(),
+            Call::Check(rule, flow, mode, beside(20)),
+        )?;
+    }
     Ok(())
 }

@@ -1,109 +1,99 @@
 // The buffers that a call is lent: what they hold before it, and what is told of them after it.
-ghost use Rattle.std.specs.Prelude.{◌≤◌};
-
-use crate::show;
-use std::io;
+use std::alloc::{AllocError, Global};
+use std::fmt;
 
 // What every place holds before a call.
-pub const JUNK: u8 = 167;
+pub(crate) const JUNK: u8 = 167;
 
-pub const JUNK_16: u16 = 42919;
+pub(crate) const JUNK_16: u16 = 42919;
 
-pub const JUNK_64: u64 = 12080808863958804391;
+pub(crate) const JUNK_64: u64 = 12080808863958804391;
 
 // How long the buffers are that a call is lent.
 #[derive(Clone, Copy)]
-pub struct Lent {
-    pub work_16: usize,
-    pub work_64: usize,
-    pub buffer: usize,
+pub(crate) struct Room {
+    pub(crate) work_16: usize,
+    pub(crate) work_64: usize,
+    pub(crate) buffer: usize,
 }
 
 // Workspaces as long as the order asks, beside a buffer of n bytes.
-pub fn beside(n: usize) -> Lent {
-    Lent {
+pub(crate) fn beside(n: usize) -> Room {
+    Room {
         work_16: 32768,
         work_64: 128,
         buffer: n,
     }
 }
 
-pub fn least(a: usize, b: usize) -> usize
-    ensures { (result ≤ a) × (result ≤ b) }
-{
-    if a < b { a } else { b }
+// The first place from `from` on that holds another number than `held`.
+fn first_other<T: PartialEq + Copy>(buffer: &[T], from: usize, held: T) -> Option<usize> {
+    let (at, _) = buffer
+        .iter()
+        .enumerate()
+        .skip(from)
+        .find(|(_, number)| **number != held)?;
+    Some(at)
 }
 
-// The first place from `from` on that holds another number than `held`; the length where there is none.
-fn first_8(buffer: &[u8], from: usize, held: u8) -> usize {
-    let mut i = from;
-    while i < buffer.len() {
-        if buffer[i] != held {
-            return i;
+// That a buffer is as it was from `from` on, or where it is not.
+#[derive(Clone, Copy)]
+pub(crate) struct Kept {
+    from: usize,
+    changed: Option<usize>,
+}
+
+impl Kept {
+    pub(crate) fn of<T: PartialEq + Copy>(buffer: &[T], from: usize, held: T) -> Kept {
+        Kept {
+            from,
+            changed: first_other(buffer, from, held),
         }
-        i += 1;
     }
-    i
 }
 
-fn first_16(buffer: &[u16], from: usize, held: u16) -> usize {
-    let mut i = from;
-    while i < buffer.len() {
-        if buffer[i] != held {
-            return i;
+impl fmt::Display for Kept {
+    fn fmt<W: fmt::Write>(&self, f: &mut fmt::Formatter<W>) -> fmt::Result {
+        match self.changed {
+            Some(at) => write!(f, "; changed at {at}"),
+            None => write!(f, "; kept from {}", self.from),
         }
-        i += 1;
     }
-    i
 }
 
-fn first_64(buffer: &[u64], from: usize, held: u64) -> usize {
-    let mut i = from;
-    while i < buffer.len() {
-        if buffer[i] != held {
-            return i;
+// Both workspaces, full of junk before a call.
+#[derive(Drop)]
+pub(crate) struct Workspaces {
+    pub(crate) work_16: Vec<u16>,
+    pub(crate) work_64: Vec<u64>,
+}
+
+impl Workspaces {
+    pub(crate) fn new(alloc: Global, room: Room) -> Result<Workspaces, AllocError> {
+        Ok(Workspaces {
+            work_16: vec![in alloc; JUNK_16; room.work_16]?,
+            work_64: vec![in alloc; JUNK_64; room.work_64]?,
+        })
+    }
+}
+
+// That a workspace is zero, or where it is not.
+#[derive(Clone, Copy)]
+struct Zero(Option<usize>);
+
+impl fmt::Display for Zero {
+    fn fmt<W: fmt::Write>(&self, f: &mut fmt::Formatter<W>) -> fmt::Result {
+        match self.0 {
+            Some(at) => write!(f, " {at}"),
+            None => write!(f, " zero"),
         }
-        i += 1;
     }
-    i
 }
 
-fn told(rt: &impl Print, from: usize, first: usize, length: usize) -> io::Result<()> {
-    if first < length {
-        show::word(rt, b"; changed at")?;
-        show::number(rt, first as u64)?;
-        return Ok(());
+impl fmt::Display for Workspaces {
+    fn fmt<W: fmt::Write>(&self, f: &mut fmt::Formatter<W>) -> fmt::Result {
+        let first = Zero(first_other(&self.work_16, 0, 0));
+        let second = Zero(first_other(&self.work_64, 0, 0));
+        write!(f, "; workspaces{first}{second}")
     }
-    show::word(rt, b"; kept from")?;
-    show::number(rt, from as u64)?;
-    Ok(())
-}
-
-// That nothing changed in a buffer past the first n places, or where.
-pub fn kept(rt: &impl Print, buffer: &[u8], n: usize) -> io::Result<()> {
-    told(rt, n, first_8(buffer, n, JUNK), buffer.len())?;
-    Ok(())
-}
-
-// That nothing changed in a list past the first n places, or where.
-pub fn kept_16(rt: &impl Print, list: &[u16], n: usize) -> io::Result<()> {
-    told(rt, n, first_16(list, n, JUNK_16), list.len())?;
-    Ok(())
-}
-
-fn place(rt: &impl Print, first: usize, length: usize) -> io::Result<()> {
-    if first < length {
-        show::number(rt, first as u64)?;
-        return Ok(());
-    }
-    show::word(rt, b" zero")?;
-    Ok(())
-}
-
-// That both workspaces are zero, or where they are not.
-pub fn cleared(rt: &impl Print, work_16: &[u16], work_64: &[u64]) -> io::Result<()> {
-    show::word(rt, b"; workspaces")?;
-    place(rt, first_16(work_16, 0, 0), work_16.len())?;
-    place(rt, first_64(work_64, 0, 0), work_64.len())?;
-    Ok(())
 }

@@ -1,90 +1,38 @@
 // The order's cases 1 to 12, over the constants that the proved case table names: checks in both modes, then builders.
-use crate::ask;
+use crate::ask::{Call, ask, both};
 use crate::lent::beside;
 use std::io;
 
-pub fn case_1(rt: &impl Print) -> io::Result<()> {
-    let r = cases::r();
-    ask::both(rt, b"case 1:", &r, &r)?;
+// One of the cases 1 to 9; two of them are also asked of the short form, which runs mode 0.
+fn case(rt: &(impl Print + AllocGlobal), number: u8, rule: &[u8], flow: &[u8]) -> io::Result<()> {
+    both(rt, format_args!("case {number}:"), rule, flow)?;
+    if matches!(number, 3 | 6) {
+        let call = Call::CheckShort(rule, flow, beside(20));
+        ask(rt, format_args!("case {number}, short form:"), call)?;
+    }
     Ok(())
 }
 
-pub fn case_2(rt: &impl Print) -> io::Result<()> {
-    let rule = cases::r();
-    let flow = cases::flow_2();
-    ask::both(rt, b"case 2:", &rule, &flow)?;
-    Ok(())
+pub(crate) fn checks(rt: &(impl Print + AllocGlobal)) -> io::Result<()> {
+    let (r, stop, div) = (cases::r(), cases::stop(), cases::div());
+    let (flow_3, rule_7) = (cases::flow_3(), cases::rule_7());
+    case(rt, 1, &r, &r)?;
+    case(rt, 2, &r, &cases::flow_2())?;
+    case(rt, 3, &r, &flow_3)?;
+    case(rt, 4, &r, &stop)?;
+    // A flow that is never stable refuses nothing.
+    case(rt, 5, &r, &div)?;
+    // A node without a stable state may refuse nothing.
+    case(rt, 6, &div, &stop)?;
+    case(rt, 7, &rule_7, &cases::flow_7())?;
+    // A flow need not offer all that the rule may offer.
+    case(rt, 8, &rule_7, &flow_3)?;
+    case(rt, 9, &stop, &cases::flow_9())
 }
 
-// The short form runs mode 0.
-pub fn case_3(rt: &impl Print) -> io::Result<()> {
-    let rule = cases::r();
-    let flow = cases::flow_3();
-    ask::both(rt, b"case 3:", &rule, &flow)?;
-    ask::check_short(rt, b"case 3, short form:", &rule, &flow)?;
-    Ok(())
-}
-
-pub fn case_4(rt: &impl Print) -> io::Result<()> {
-    let rule = cases::r();
-    let flow = cases::stop();
-    ask::both(rt, b"case 4:", &rule, &flow)?;
-    Ok(())
-}
-
-// A flow that is never stable refuses nothing.
-pub fn case_5(rt: &impl Print) -> io::Result<()> {
-    let rule = cases::r();
-    let flow = cases::div();
-    ask::both(rt, b"case 5:", &rule, &flow)?;
-    Ok(())
-}
-
-// A node without a stable state may refuse nothing.
-pub fn case_6(rt: &impl Print) -> io::Result<()> {
-    let rule = cases::div();
-    let flow = cases::stop();
-    ask::both(rt, b"case 6:", &rule, &flow)?;
-    ask::check_short(rt, b"case 6, short form:", &rule, &flow)?;
-    Ok(())
-}
-
-pub fn case_7(rt: &impl Print) -> io::Result<()> {
-    let rule = cases::rule_7();
-    let flow = cases::flow_7();
-    ask::both(rt, b"case 7:", &rule, &flow)?;
-    Ok(())
-}
-
-// A flow need not offer all that the rule may offer.
-pub fn case_8(rt: &impl Print) -> io::Result<()> {
-    let rule = cases::rule_7();
-    let flow = cases::flow_3();
-    ask::both(rt, b"case 8:", &rule, &flow)?;
-    Ok(())
-}
-
-pub fn case_9(rt: &impl Print) -> io::Result<()> {
-    let rule = cases::stop();
-    let flow = cases::flow_9();
-    ask::both(rt, b"case 9:", &rule, &flow)?;
-    Ok(())
-}
-
-pub fn case_10(rt: &impl Print) -> io::Result<()> {
-    let r = cases::r();
-    ask::join(rt, b"case 10:", &r, &r, 14, 40)?;
-    Ok(())
-}
-
-pub fn case_11(rt: &impl Print) -> io::Result<()> {
-    let one = cases::loop_11();
-    ask::join(rt, b"case 11:", &one, &one, 0, 40)?;
-    Ok(())
-}
-
-pub fn case_12(rt: &impl Print) -> io::Result<()> {
-    let r = cases::r();
-    ask::watchdog(rt, b"case 12:", &r, beside(80))?;
-    Ok(())
+pub(crate) fn builders(rt: &(impl Print + AllocGlobal)) -> io::Result<()> {
+    let (r, one) = (cases::r(), cases::loop_11());
+    ask(rt, "case 10:", Call::Join(&r, &r, 14, 40))?;
+    ask(rt, "case 11:", Call::Join(&one, &one, 0, 40))?;
+    ask(rt, "case 12:", Call::Watchdog(&r, beside(80)))
 }

@@ -1,147 +1,120 @@
 // Which refusal is given where two apply: of two neighbours in the order's rows, the first.
-use crate::lent::{Lent, beside};
-use crate::{ask, make};
+use crate::ask::{Call, ask};
+use crate::lent::{Room, beside};
+use crate::make::{self, ASTRAY, DISORDERED, MISFRAMED, MISNAMED, OUTSIDE, SILENT_LOOP};
 use std::io;
 
 // No workspace and no room: with these a check is refused by 11 and a builder by 18, if by nothing before.
-fn nothing() -> Lent {
-    Lent {
-        work_16: 0,
-        work_64: 0,
-        buffer: 0,
-    }
-}
+const NOTHING: Room = Room {
+    work_16: 0,
+    work_64: 0,
+    buffer: 0,
+};
 
 // "Within one table 1 to 7 are tried in that order, each over the whole table before the next."
-pub fn of_a_table(rt: &impl Print) -> io::Result<()> {
+pub(crate) fn of_a_table(rt: &(impl Print + AllocGlobal)) -> io::Result<()> {
     let r = cases::r();
-    let outside = make::changed(r, 1, 5);
-    let misframed = make::changed(r, 8, 13);
-    let late = make::changed(r, 28, 3);
-    let early = make::changed(r, 12, 2);
-    ask::read(rt, b"1 and 2:", &outside[0..11], 9)?;
-    ask::read(rt, b"2 and 3:", &make::changed(outside, 8, 13), 9)?;
-    ask::read(rt, b"3 and 4:", &make::changed(misframed, 4, 3), 9)?;
-    ask::read(rt, b"4 and 5:", &make::changed(late, 4, 3), 9)?;
-    ask::read(rt, b"5 late and 6 early:", &make::changed(late, 12, 2), 9)?;
-    ask::read(
-        rt,
-        b"6 and 7:",
-        &make::changed(make::changed(early, 20, 0), 22, 1),
-        9,
-    )?;
+    let outside = make::changed(r, &[OUTSIDE]);
+    ask(rt, "1 and 2:", Call::Read(&outside[..11], 9))?;
+    let rows: [(&str, &[(usize, u8)]); 5] = [
+        ("2 and 3:", &[OUTSIDE, MISFRAMED]),
+        ("3 and 4:", &[MISFRAMED, ASTRAY]),
+        ("4 and 5:", &[MISNAMED, ASTRAY]),
+        ("5 late and 6 early:", &[MISNAMED, DISORDERED]),
+        ("6 and 7:", &[DISORDERED, (20, 0), (22, 1)]),
+    ];
+    for (about, changes) in rows {
+        let table = make::changed(r, changes);
+        ask(rt, about, Call::Read(&table, 9))?;
+    }
     Ok(())
 }
 
 // "Check: 8, rule's 1 to 7, flow's 1 to 7, then 9 to 14."
-pub fn of_a_check(rt: &impl Print) -> io::Result<()> {
-    let short = [0u8; 11];
+pub(crate) fn of_a_check(rt: &(impl Print + AllocGlobal)) -> io::Result<()> {
+    let short = [0; 11];
     let r = cases::r();
-    let silent = make::changed(make::changed(r, 14, 0), 16, 0);
-    ask::check(rt, b"8 and the rule's 1:", &short, &r, 2, beside(20))?;
-    ask::check(
-        rt,
-        b"the rule's 7 and the flow's 1:",
-        &silent,
-        &short,
-        0,
-        beside(20),
-    )?;
-    Ok(())
-}
-
-fn of_two_tables(rt: &impl Print) -> io::Result<()> {
+    let silent = make::changed(r, &SILENT_LOOP);
     let other = make::header(65, 2, 0);
+    let one = make::header(1, 2, 0);
+    let calls = [
+        (
+            "8 and the rule's 1:",
+            Call::Check(&short, &r, 2, beside(20)),
+        ),
+        (
+            "the rule's 7 and the flow's 1:",
+            Call::Check(&silent, &short, 0, beside(20)),
+        ),
+        (
+            "the flow's 7 and 9:",
+            Call::Check(&other, &silent, 0, NOTHING),
+        ),
+        ("9 and 10:", Call::Check(&other, &r, 0, NOTHING)),
+        ("10 and 11:", Call::Check(&other, &one, 0, NOTHING)),
+    ];
+    for (about, call) in calls {
+        ask(rt, about, call)?;
+    }
+    Ok(())
+}
+
+// 65 nodes and 1,024 flow states; then 17 nodes and 1,024 flow states, and a trace fault of 17 events that has no room.
+pub(crate) fn of_a_check_later(rt: &(impl Print + AllocGlobal)) -> io::Result<()> {
+    let many = make::chain_of_64(rt.alloc(), 65)?;
+    let states = make::header(1024, 2, 0);
+    let rule = make::ring(rt.alloc(), 200, 17, 1, 16)?;
+    let flow = make::ring(rt.alloc(), 6200, 1024, 1, 1024)?;
+    let calls = [
+        ("11 and 12:", Call::Check(&many, &states, 1, NOTHING)),
+        ("12 and 13:", Call::Check(&many, &states, 1, beside(0))),
+        ("13 and 14:", Call::Check(&rule, &flow, 0, beside(0))),
+    ];
+    for (about, call) in calls {
+        ask(rt, about, call)?;
+    }
+    Ok(())
+}
+
+// "Join: first table, second table, 15 to 18." For 16 a table of 4 states and 10 moves beside 1,024 states; for 17 1,024
+// loops beside 4,096 moves; and no room for any.
+pub(crate) fn of_a_join(rt: &(impl Print + AllocGlobal)) -> io::Result<()> {
+    let short = [0; 11];
     let r = cases::r();
-    let silent = make::changed(make::changed(r, 14, 0), 16, 0);
-    ask::check(rt, b"the flow's 7 and 9:", &other, &silent, 0, nothing())?;
-    ask::check(rt, b"9 and 10:", &other, &r, 0, nothing())?;
-    Ok(())
-}
-
-// 65 nodes and 1,024 flow states.
-fn many(rt: &impl Print, about: &[u8], room: Lent) -> io::Result<()> {
-    let mut rule = [0u8; 420];
-    let k = make::chain_of_64(65, &mut rule);
-    let flow = make::header(1024, 2, 0);
-    ask::check(rt, about, &rule[0..k], &flow, 1, room)?;
-    Ok(())
-}
-
-// 17 nodes and 1,024 flow states, and a trace fault of 17 events that has no room.
-fn too_long(rt: &impl Print) -> io::Result<()> {
-    let mut rule = [0u8; 200];
-    let mut flow = [0u8; 6200];
-    let n = make::round(17, 1, 16, &mut rule);
-    let m = make::round(1024, 1, 1024, &mut flow);
-    ask::check(rt, b"13 and 14:", &rule[0..n], &flow[0..m], 0, beside(0))?;
-    Ok(())
-}
-
-pub fn of_a_check_later(rt: &impl Print) -> io::Result<()> {
-    let rule = make::header(65, 2, 0);
-    let flow = make::header(1, 2, 0);
-    of_two_tables(rt)?;
-    ask::check(rt, b"10 and 11:", &rule, &flow, 0, nothing())?;
-    many(rt, b"11 and 12:", nothing())?;
-    many(rt, b"12 and 13:", beside(0))?;
-    too_long(rt)?;
-    Ok(())
-}
-
-// "Join: first table, second table, 15 to 18."
-pub fn of_a_join(rt: &impl Print) -> io::Result<()> {
-    let short = [0u8; 11];
-    let r = cases::r();
-    let silent = make::changed(make::changed(r, 14, 0), 16, 0);
-    ask::join(
-        rt,
-        b"the first's 7 and the second's 1:",
-        &silent,
-        &short,
-        1,
-        0,
-    )?;
-    ask::join(rt, b"the second's 7 and 15:", &r, &silent, 1, 0)?;
-    Ok(())
-}
-
-// A table of 4 states and 10 moves beside 1,024 states.
-fn of_a_large_join(rt: &impl Print) -> io::Result<()> {
-    let first = cases::watchdog_12();
-    let second = make::header(1024, 3, 0);
-    ask::join(rt, b"15 and 16:", &first, &second, 1, 0)?;
-    ask::join(rt, b"16 and 17:", &first, &second, 0, 0)?;
-    Ok(())
-}
-
-// 1,024 loops beside 4,096 moves, and no room for any.
-pub fn of_a_join_later(rt: &impl Print) -> io::Result<()> {
-    of_a_large_join(rt)?;
-    let one = cases::loop_11();
-    let mut ring = [0u8; 24600];
-    let n = make::round(1024, 4, 4096, &mut ring);
-    ask::join(rt, b"17 and 18:", &one, &ring[0..n], 0, 0)?;
+    let silent = make::changed(r, &SILENT_LOOP);
+    let (dog, one) = (cases::watchdog_12(), cases::loop_11());
+    let states = make::header(1024, 3, 0);
+    let ring = make::ring(rt.alloc(), 24600, 1024, 4, 4096)?;
+    let calls = [
+        (
+            "the first's 7 and the second's 1:",
+            Call::Join(&silent, &short, 1, 0),
+        ),
+        ("the second's 7 and 15:", Call::Join(&r, &silent, 1, 0)),
+        ("15 and 16:", Call::Join(&dog, &states, 1, 0)),
+        ("16 and 17:", Call::Join(&dog, &states, 0, 0)),
+        ("17 and 18:", Call::Join(&one, &ring, 0, 0)),
+    ];
+    for (about, call) in calls {
+        ask(rt, about, call)?;
+    }
     Ok(())
 }
 
 // "Watchdog: the rule's 1 to 7, then 10, 19, 11, 12, 18."
-pub fn of_a_watchdog(rt: &impl Print) -> io::Result<()> {
-    ask::watchdog(
-        rt,
-        b"the rule's 4 and 10:",
-        &make::header(65, 63, 65),
-        nothing(),
-    )?;
-    ask::watchdog(rt, b"10 and 19:", &make::header(65, 63, 0), nothing())?;
-    ask::watchdog(rt, b"19 and 11:", &make::header(64, 63, 0), nothing())?;
-    Ok(())
-}
-
-pub fn of_a_watchdog_later(rt: &impl Print) -> io::Result<()> {
-    let mut rule = [0u8; 420];
-    let k = make::chain_of_64(65, &mut rule);
-    ask::watchdog(rt, b"11 and 12:", &rule[0..k], nothing())?;
-    ask::watchdog(rt, b"12 and 18:", &rule[0..k], beside(0))?;
+pub(crate) fn of_a_watchdog(rt: &(impl Print + AllocGlobal)) -> io::Result<()> {
+    let astray = make::header(65, 63, 65);
+    let (large, widest) = (make::header(65, 63, 0), make::header(64, 63, 0));
+    let many = make::chain_of_64(rt.alloc(), 65)?;
+    let calls = [
+        ("the rule's 4 and 10:", Call::Watchdog(&astray, NOTHING)),
+        ("10 and 19:", Call::Watchdog(&large, NOTHING)),
+        ("19 and 11:", Call::Watchdog(&widest, NOTHING)),
+        ("11 and 12:", Call::Watchdog(&many, NOTHING)),
+        ("12 and 18:", Call::Watchdog(&many, beside(0))),
+    ];
+    for (about, call) in calls {
+        ask(rt, about, call)?;
+    }
     Ok(())
 }

@@ -1,115 +1,74 @@
 // Refusals 1 to 9, each in every call that gives it; limits.rt has the others.
+use crate::ask::{Call, ask, both};
 use crate::lent::beside;
-use crate::{ask, make, show};
+use crate::make::{self, ASTRAY, DISORDERED, MISFRAMED, MISNAMED, OUTSIDE, SILENT_LOOP};
 use std::io;
 
-// The table R, damaged so that this one of 2 to 7 is given.
-fn damaged(number: u8) -> [u8; 30] {
-    let r = cases::r();
-    match number {
-        2 => make::changed(r, 1, 5),
-        3 => make::changed(r, 8, 13),
-        4 => make::changed(r, 4, 3),
-        5 => make::changed(r, 28, 3),
-        6 => make::changed(r, 12, 2),
-        7 => make::changed(make::changed(r, 14, 0), 16, 0),
-        _ => r,
-    }
-}
-
-// Which refusal, and of what.
-fn word(rt: &impl Print, number: u8, of: &[u8]) -> io::Result<()> {
-    show::word(rt, b"refusal")?;
-    show::number(rt, number as u64)?;
-    show::word(rt, of)?;
-    Ok(())
-}
-
-// A table alone counts as the rule.
-fn alone(rt: &impl Print, number: u8, bad: &[u8]) -> io::Result<()> {
-    word(rt, number, b" of a table")?;
-    ask::read(rt, b", reader:", bad, 12)?;
-    word(rt, number, b" of a table")?;
-    ask::moves_of(rt, b", moves:", bad, 0)?;
-    word(rt, number, b" of a table")?;
-    ask::watchdog(rt, b", watchdog:", bad, beside(80))?;
-    Ok(())
-}
-
-fn checked(rt: &impl Print, number: u8, bad: &[u8], good: &[u8]) -> io::Result<()> {
-    word(rt, number, b" of the rule")?;
-    ask::check(rt, b", check:", bad, good, 0, beside(20))?;
-    word(rt, number, b" of the flow")?;
-    ask::check(rt, b", check:", good, bad, 1, beside(20))?;
-    Ok(())
-}
-
-// A join's first table counts as the rule, its second as the flow.
-fn joined(rt: &impl Print, number: u8, bad: &[u8], good: &[u8]) -> io::Result<()> {
-    word(rt, number, b" of the first")?;
-    ask::join(rt, b", join:", bad, good, 0, 20)?;
-    word(rt, number, b" of the second")?;
-    ask::join(rt, b", join:", good, bad, 0, 20)?;
-    Ok(())
-}
-
-fn given(rt: &impl Print, number: u8, bad: &[u8]) -> io::Result<()> {
+// A table alone counts as the rule, and so does a join's first table; its second counts as the flow.
+fn given(rt: &(impl Print + AllocGlobal), number: u8, bad: &[u8]) -> io::Result<()> {
     let good = cases::r();
-    alone(rt, number, bad)?;
-    checked(rt, number, bad, &good)?;
-    joined(rt, number, bad, &good)?;
+    let room = beside(20);
+    let calls = [
+        ("a table, reader", Call::Read(bad, 12)),
+        ("a table, moves", Call::MovesOf(bad, 0)),
+        ("a table, watchdog", Call::Watchdog(bad, beside(80))),
+        ("the rule, check", Call::Check(bad, &good, 0, room)),
+        ("the flow, check", Call::Check(&good, bad, 1, room)),
+        ("the first, join", Call::Join(bad, &good, 0, 20)),
+        ("the second, join", Call::Join(&good, bad, 0, 20)),
+    ];
+    for (of, call) in calls {
+        ask(rt, format_args!("refusal {number} of {of}:"), call)?;
+    }
     Ok(())
 }
 
-fn of_a_table(rt: &impl Print, number: u8) -> io::Result<()> {
-    let bad = damaged(number);
-    given(rt, number, &bad)?;
-    Ok(())
-}
-
-// 1: fewer than 12 bytes.
-fn of_11_bytes(rt: &impl Print) -> io::Result<()> {
+// 1: fewer than 12 bytes. Then the table R, damaged so that each of 2 to 7 is given.
+pub(crate) fn of_tables(rt: &(impl Print + AllocGlobal)) -> io::Result<()> {
     let r = cases::r();
-    given(rt, 1, &r[0..11])?;
-    Ok(())
+    given(rt, 1, &r[..11])?;
+    given(rt, 2, &make::changed(r, &[OUTSIDE]))?;
+    given(rt, 3, &make::changed(r, &[MISFRAMED]))?;
+    given(rt, 4, &make::changed(r, &[ASTRAY]))?;
+    given(rt, 5, &make::changed(r, &[MISNAMED]))?;
+    given(rt, 6, &make::changed(r, &[DISORDERED]))?;
+    given(rt, 7, &make::changed(r, &SILENT_LOOP))
 }
 
-pub fn of_tables(rt: &impl Print) -> io::Result<()> {
-    of_11_bytes(rt)?;
-    of_a_table(rt, 2)?;
-    of_a_table(rt, 3)?;
-    of_a_table(rt, 4)?;
-    of_a_table(rt, 5)?;
-    of_a_table(rt, 6)?;
-    of_a_table(rt, 7)?;
-    Ok(())
+// R with one byte changed, read.
+fn changed(rt: &(impl Print + AllocGlobal), about: &str, change: (usize, u8)) -> io::Result<()> {
+    let table = make::changed(cases::r(), &[change]);
+    ask(rt, about, Call::Read(&table, 9))
 }
 
 // The three ways to be misframed: offset, last header number, length; a table of one move less and of one more than it says.
-pub fn framed(rt: &impl Print) -> io::Result<()> {
+pub(crate) fn framed(rt: &(impl Print + AllocGlobal)) -> io::Result<()> {
     let r = cases::r();
-    ask::read(rt, b"offset 268:", &make::changed(r, 9, 1), 9)?;
-    ask::read(rt, b"last header number 256:", &make::changed(r, 11, 1), 9)?;
-    ask::read(rt, b"3 moves and 2 counted:", &make::changed(r, 6, 2), 9)?;
-    ask::read(rt, b"3 moves and 4 counted:", &make::changed(r, 6, 4), 9)?;
-    ask::read(rt, b"29 bytes:", &r[0..29], 9)?;
-    Ok(())
+    let short = &r[0..29];
+    changed(rt, "offset 268:", (9, 1))?;
+    changed(rt, "last header number 256:", (11, 1))?;
+    changed(rt, "3 moves and 2 counted:", (6, 2))?;
+    changed(rt, "3 moves and 4 counted:", (6, 4))?;
+    ask(rt, "29 bytes:", Call::Read(short, 9))
 }
 
 // 8: a mode that is neither 0 nor 1, also a wide one.
-pub fn modes(rt: &impl Print) -> io::Result<()> {
+pub(crate) fn modes(rt: &(impl Print + AllocGlobal)) -> io::Result<()> {
     let r = cases::r();
-    ask::check(rt, b"mode 2:", &r, &r, 2, beside(20))?;
-    ask::check(rt, b"mode 256:", &r, &r, 256, beside(20))?;
-    ask::check(rt, b"mode 65535:", &r, &r, 65535, beside(20))?;
+    for mode in [2, 256, 65535] {
+        ask(
+            rt,
+            format_args!("mode {mode}:"),
+            Call::Check(&r, &r, mode, beside(20)),
+        )?;
+    }
     Ok(())
 }
 
 // 9: rule and flow have different E.
-pub fn events(rt: &impl Print) -> io::Result<()> {
+pub(crate) fn events(rt: &(impl Print + AllocGlobal)) -> io::Result<()> {
     let rule = cases::r();
     let flow = make::header(1, 4, 0);
-    ask::both(rt, b"E 3 and 4:", &rule, &flow)?;
-    ask::both(rt, b"E 4 and 3:", &flow, &rule)?;
-    Ok(())
+    both(rt, "E 3 and 4:", &rule, &flow)?;
+    both(rt, "E 4 and 3:", &flow, &rule)
 }

@@ -1,75 +1,61 @@
 // The report's lines, in buffers that are just long enough and in shorter ones.
-use crate::{lent, show, tell};
-use lines::answer::Line;
+use crate::lent::{JUNK, Kept};
+use crate::show;
 use refine::verdict::Verdict;
+use std::fmt::Display;
 use std::io;
 
-fn wrote(rt: &impl Print, n: usize, out: &[u8]) -> io::Result<()> {
-    show::word(rt, b" wrote")?;
-    show::number(rt, n as u64)?;
-    show::word(rt, b": ")?;
-    tell::line(rt, out, n)?;
-    lent::kept(rt, out, n)?;
-    Ok(())
-}
-
-fn short(rt: &impl Print, out: &[u8]) -> io::Result<()> {
-    show::word(rt, b" short")?;
-    lent::kept(rt, out, 0)?;
-    Ok(())
-}
-
-fn made(rt: &impl Print, about: &[u8], v: Verdict, trace: &[u8], out: &mut [u8]) -> io::Result<()> {
-    show::word(rt, about)?;
-    let answer = lines::line(v, trace, 1, out);
-    match answer {
-        Line::Wrote(n) => wrote(rt, n, out)?,
-        Line::Short => short(rt, out)?,
+// The line of a verdict in mode 1, in a buffer of so many bytes.
+fn line(
+    rt: &(impl Print + AllocGlobal),
+    about: impl Display + Drop,
+    verdict: Verdict,
+    trace: &[u8],
+    bytes: usize,
+) -> io::Result<()> {
+    let alloc = rt.alloc();
+    let mut out = vec![in alloc; JUNK; bytes]?;
+    match lines::line(verdict, trace, 1, &mut out) {
+        Ok(n) => {
+            let line = show::line(alloc, &out[..n.min(out.len())])?;
+            println!(rt; "{about} wrote {n}: {line}{}", Kept::of(&out, n, JUNK))
+        }
+        Err(_) => println!(rt; "{about} short{}", Kept::of(&out, 0, JUNK)),
     }
-    show::word(rt, b"\n")?;
-    Ok(())
 }
 
-// The line of a verdict in mode 1, in a buffer of n bytes.
-fn line(rt: &impl Print, about: &[u8], v: Verdict, trace: &[u8], n: usize) -> io::Result<()> {
-    let mut out = [lent::JUNK; 60];
-    let k = lent::least(n, 60);
-    made(rt, about, v, trace, &mut out[0..k])?;
-    Ok(())
-}
-
-// Case 3's second line, with its line feed, has 36 bytes.
-pub fn case_3(rt: &impl Print) -> io::Result<()> {
-    let v = Verdict::RefusalFault {
+pub(crate) fn lines(rt: &(impl Print + AllocGlobal)) -> io::Result<()> {
+    // Case 3's second line, with its line feed, has 36 bytes.
+    let case_3 = Verdict::RefusalFault {
         length: 1,
         offers: 0,
     };
-    let trace = [1u8, 200];
-    line(rt, b"line of 36 bytes in 36:", v, &trace, 36)?;
-    line(rt, b"line of 36 bytes in 35:", v, &trace, 35)?;
+    for bytes in [36, 35] {
+        line(
+            rt,
+            format_args!("line of 36 bytes in {bytes}:"),
+            case_3,
+            &[1, 200],
+            bytes,
+        )?;
+    }
     line(
         rt,
-        b"line of a trace of 1 in a buffer of 0:",
-        v,
-        &trace[0..0],
+        "line of a trace of 1 in a buffer of 0:",
+        case_3,
+        &[],
         60,
     )?;
-    Ok(())
-}
-
-// Offers are counted and stand upwards; of a longer trace buffer only the trace is told.
-pub fn offers(rt: &impl Print) -> io::Result<()> {
-    let v = Verdict::RefusalFault {
+    // Offers are counted and stand upwards; of a longer trace buffer only the trace is told.
+    let offered = Verdict::RefusalFault {
         length: 2,
-        offers: 9223372036854775842,
+        offers: 1 << 1 | 1 << 5 | 1 << 63,
     };
-    let trace = [63u8, 10, 200];
     line(
         rt,
-        b"line of events 1, 5 and 63 offered after 63 10:",
-        v,
-        &trace,
+        "line of events 1, 5 and 63 offered after 63 10:",
+        offered,
+        &[63, 10, 200],
         60,
-    )?;
-    Ok(())
+    )
 }

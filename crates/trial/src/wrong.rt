@@ -1,5 +1,5 @@
 // Errors that look reasonable, each shown by a check that it would answer otherwise. Cases 5, 6 and 8 show three of them.
-use crate::ask;
+use crate::ask::both;
 use std::io;
 
 // Silent moves leave no mark: the flow does 2 after three silent moves, and 3 after one visible one.
@@ -26,26 +26,11 @@ const PARTS_WAYS: [u8; 36] = *b"\x05\0\x03\0\0\0\x04\0\x0c\0\0\0\
     \x01\0\x03\0\x03\0\
     \x02\0\x02\0\x04\0";
 
-// The length counts visible events: 2 comes before 1 3.
-pub fn silent_moves(rt: &impl Print) -> io::Result<()> {
-    let rule = cases::r();
-    let flow = HESITATES;
-    ask::both(rt, b"silent moves before a fault:", &rule, &flow)?;
-    Ok(())
-}
-
-// A pair is a node and a flow state: by flow states alone the walk would end at once.
-pub fn one_flow_state(rt: &impl Print) -> io::Result<()> {
-    let rule = TWICE;
-    let flow = ALWAYS;
-    ask::both(rt, b"one flow state beside three nodes:", &rule, &flow)?;
-    Ok(())
-}
-
-// Of the traces 1 2 and 1 3 the first is told, though the lower state does 3.
-pub fn states_in_a_group(rt: &impl Print) -> io::Result<()> {
-    let rule = TWICE;
-    let flow = PARTS_WAYS;
-    ask::both(rt, b"two flow states after one trace:", &rule, &flow)?;
-    Ok(())
+pub(crate) fn reasonable_errors(rt: &(impl Print + AllocGlobal)) -> io::Result<()> {
+    // The length counts visible events: 2 comes before 1 3.
+    both(rt, "silent moves before a fault:", &cases::r(), &HESITATES)?;
+    // A pair is a node and a flow state: by flow states alone the walk would end at once.
+    both(rt, "one flow state beside three nodes:", &TWICE, &ALWAYS)?;
+    // Of the traces 1 2 and 1 3 the first is told, though the lower state does 3.
+    both(rt, "two flow states after one trace:", &TWICE, &PARTS_WAYS)
 }
