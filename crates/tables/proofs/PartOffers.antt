@@ -49,6 +49,14 @@ module _ (at : ℕ → Move) where
       down x (inl g) = let v = h.only x g in record { seen = v.seen; one = v.one; among = Memᴰ.append_left (at i ∷ []) v.among; by = v.by }
       down x (inr g) = record { seen = g.0; one = at i; among = Memᴰ.append_right (row at i) (Memᴰ.head refl); by = sym f ∙ sym g.1 }
 
+  -- none of the first m moves is silent
+  pub still_row : (m : ℕ) → ((j : ℕ) → j < m → 0 < (at j).event) → Still (row at m)
+  still_row m h v i z =
+      let s = of_row at m v i in
+      let e : (at s.number).event ≡ v.event = ap (λ (w : Move). w.event) s.is in
+      let k = h s.number s.below in
+      omega arith
+
   -- is_stable asks of each of the first m moves whether it is not silent
   unfoldable pub heard : ℕ → Bool
   heard j = not (eqb (at j).event 0)
