@@ -8,6 +8,7 @@ use crate::fields;
 use crate::pen::Pen;
 use sets::has_one;
 
+// How many members a set has; `as`, since Rust has no From from u32 to usize.
 fn count(set: u64) -> usize
     ensures { result ≡ length (members set) }
 {

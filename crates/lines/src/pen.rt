@@ -31,6 +31,7 @@ pub trait Pen {
     }
 
     // A number in decimal: by hand, since the library's printing doesn't say when it fails, and a line's promise does.
+    // A digit fits a byte.
     final fn number(&mut self, n: usize) -> Result<(), Short>
     where
         Self: Sized,

@@ -16,7 +16,7 @@ enum Kind {
     RefusalFault = 4,
 }
 
-// A kind that is no refusal, with its values.
+// A kind that is no refusal, with its values. (`as` here and below: Rust has no From for an enum's number or a usize.)
 fn values(kind: Kind, a: u64, b: u64, c: u64, d: u64) -> [u64; 8]
     ensures { result ≡ values (kind_number kind) a b c d }
 {

@@ -43,7 +43,7 @@ impl<'a> Table<'a> {
         Ok(Table { bytes })
     }
 
-    // The same as the flow.
+    // The same as the flow. (One maker that is told whose the table is would be told it at each call, and prove it there.)
     pub fn as_flow(bytes: &'a [u8]) -> Result<Table<'a>, Refusal>
         ensures ok { IfOk result (Held bytes.now) }
         ensures err { IfErr result (Faulted Flow bytes.now) }
@@ -52,6 +52,14 @@ impl<'a> Table<'a> {
             return Err(Refusal::Flow(k));
         }
         Ok(Table { bytes })
+    }
+
+    // The table in bytes that are known to be good.
+    pub fn known(bytes: &'a [u8]) -> Table<'a>
+        requires { refusal bytes.now ≡ None }
+        ensures { result ≡ bytes.now }
+    {
+        Table { bytes }
     }
 
     pub fn bytes(&self) -> &'a [u8]

@@ -19,7 +19,7 @@ pub fn put_header(n: u16, e: u16, start: u16, m: u16, out: &mut [u8])
 }
 
 // Puts a move at byte `at` of the part that is lent for moves. Its numbers come one by one: who calls has no Move, and to make one
-// would be no plainer.
+// would be no plainer. They fit 16 bits; to try would add a case that never comes.
 pub fn put_move(ms: &mut [u8], at: usize, from: usize, event: usize, to: usize)
     requires room { at + 6 ≤ length ms.old }
     requires numbers_fit { (from < 65536) × ((event < 65536) × (to < 65536)) }

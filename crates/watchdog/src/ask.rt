@@ -30,7 +30,7 @@ fn made(rule: &[u8], lacks: bool, out: &mut [u8]) -> Result<usize, Refusal>
     ensures { Answers rule.now lacks out.old (built_says result) out.new }
 {
     let table = tested(rule, lacks)?;
-    let form = normal_of(&table).ok_or(Refusal::Rule(12))?;
+    let form = normal_of(table.bytes()).ok_or(Refusal::Rule(12))?;
     put_watchdog(&form, out)
 }
 

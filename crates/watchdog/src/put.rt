@@ -82,6 +82,7 @@ pub fn put_watchdog(form: &Form, out: &mut [u8]) -> Result<usize, Refusal>
     if out.len() < size {
         return Err(Refusal::Call(18));
     }
+    // all fit 16 bits: at most 65 states, 63 events, 3,969 moves
     put_header((k + 1) as u16, (last + 1) as u16, 0, m as u16, out);
     let watched = Watched { form };
     watched.put_moves(&mut out[12..]);
