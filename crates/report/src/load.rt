@@ -9,7 +9,7 @@ use std::{fs, str};
 pub const ROOM: usize = 24589;
 
 // Reads a file to its end, and hands back what it holds; none where a read fails, or where the file fills the buffer. A loop of
-// its own, since the library's read_to_end takes a heap, of which the project has none.
+// its own, since the library's read_to_end takes a heap, of which the report has none.
 fn read_whole<'b, F: Read>(file: &mut F, buf: &'b mut [u8]) -> Option<&'b [u8]>
     ensures { IfSome result (λ t. length t.now ≤ length buf.old - 1) }
 {
