@@ -5,7 +5,7 @@ use std::alloc::{AllocError, Global};
 use std::str;
 use std::str::FromStr;
 
-// Why a line is not answered by what a call answers.
+// Why no call is made of a line.
 #[derive(Debug, Drop)]
 pub enum LineError {
     // It does not follow the protocol.

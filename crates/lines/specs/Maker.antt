@@ -11,6 +11,7 @@ pub record Made : Type 0 where
   pub answer : Result ℕ Short
   pub out : List ℕ
 
+-- why there is no line
 abbrev pub short : Short
 short = record {}
 

@@ -30,8 +30,8 @@ pub trait Pen {
         Ok(())
     }
 
-    // A number in decimal: by hand, since the library's printing doesn't say when it fails, and a line's promise does.
-    // A digit fits a byte.
+    // A number in decimal: by hand, since the library's printing doesn't say when it fails, and a line's promise does. `as` turns
+    // a number below 10 into a byte.
     final fn number(&mut self, n: usize) -> Result<(), Short>
     where
         Self: Sized,

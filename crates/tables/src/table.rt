@@ -43,7 +43,8 @@ impl<'a> Table<'a> {
         Ok(Table { bytes })
     }
 
-    // The same as the flow. (One maker that is told whose the table is would be told it at each call, and prove it there.)
+    // The same as the flow. (A twin of the maker above: one maker for both would have to be told, and to prove, at each of its
+    // calls whose the table is.)
     pub fn as_flow(bytes: &'a [u8]) -> Result<Table<'a>, Refusal>
         ensures ok { IfOk result (Held bytes.now) }
         ensures err { IfErr result (Faulted Flow bytes.now) }

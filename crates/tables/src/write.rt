@@ -18,8 +18,8 @@ pub fn put_header(n: u16, e: u16, start: u16, m: u16, out: &mut [u8])
     put_all(out, &[n, e, start, m, 12, 0]);
 }
 
-// Puts a move at byte `at` of the part that is lent for moves. Its numbers come one by one: who calls has no Move, and to make one
-// would be no plainer. They fit 16 bits; to try would add a case that never comes.
+// Puts a move at byte `at` of the part that is lent for moves. Its numbers come one by one: no caller has a Move, and to make one
+// would be no plainer. They fit 16 bits, so a conversion that can fail would add a case that never comes.
 pub fn put_move(ms: &mut [u8], at: usize, from: usize, event: usize, to: usize)
     requires room { at + 6 ≤ length ms.old }
     requires numbers_fit { (from < 65536) × ((event < 65536) × (to < 65536)) }
