@@ -1,20 +1,22 @@
 -- The order of moves, and lists of moves that stand ascending: what stands in them determines them.
 use Prim.Native.Nat.{ℕ, zero, suc, ◌<◌, ◌≤◌, ◌+◌, ◌-◌}
-use mathlib.Core.Bool.{Bool, true, false, cond, not}
+use mathlib.Core.Bool.{Bool, true, false, cond, not, ◌&&◌, ◌||◌}
 use mathlib.Core.Path.{◌≡◌, refl, sym, ap, ap₂, ◌∙◌, subst}
 use mathlib.Core.Logic.{◌⊎◌, inl, inr, ⊎_elim}
 use mathlib.Core.List.Memᴰ
 use mathlib.Core.List.{List, [], ◌∷◌, ◌++◌, Memᴰ}
 use native.Mathlib.Omega.{arith}
+use native.Mathlib.Numerals.{add-one}
 use native.Mathlib.Nat.{eq-or-lt_of_le}
+use native.Mathlib.Decide.{ℕ_discrete}
 use lib.Dec.{eqb, ltb}
-use borrow.Author.Tests.{ltb-true, eqb-true, not-false, lt-ltb, eq-eqb, ne_eqb}
+use borrow.Author.Tests.{ltb-true, eqb-true, not-false, lt-ltb, le-ltb, eq-eqb, ne_eqb}
 use Rattle.csp.specs.Table.{Move}
 use Rattle.tables.specs.Valid.{precedes, disordered}
 use Rattle.tables.specs.Order.{Before, by_from, by_event, by_to, Ascending, none, more}
 use Rattle.tables.specs.Bytes.{row}
 use Rattle.tables.specs.Tests.{some}
-use Rattle.tables.proofs.Some.{some-none, some_false, some_here, some_next}
+use Rattle.tables.proofs.Some.{some-none, some_false}
 use Rattle.tables.proofs.Rows.{in_row, of_row}
 
 cond_cases : (t a b : Bool) → cond t a b ≡ true → ((t ≡ true) × (a ≡ true)) ⊎ ((t ≡ false) × (b ≡ true))
@@ -46,21 +48,44 @@ pub precedes_to : (a b : Move) → a.from ≡ b.from → a.event ≡ b.event →
 unfolding precedes
 precedes_to a b e f = rw (eq-eqb a.from b.from e, eq-eqb a.event b.event f) refl
 
--- 6 of a row, one move after the other: `test` compares move j with the one before
-module _ (at : ℕ → Move) (j : ℕ) (h : 1 ≤ j) where
-  pair : (b : Bool) → precedes (at (j - 1)) (at j) ≡ b → not (precedes (at (j - 1)) (at (j - 1 + 1))) ≡ not b
-  pair b k = let e : j - 1 + 1 ≡ j = omega arith in rw e (ap not k)
+-- the same without a choice: a later number counts where the earlier ones are equal
+or_none : (b : Bool) → (b || false) ≡ b
+or_none true = refl
+or_none false = refl
 
-  pub ordered_next : disordered at j ≡ false → precedes (at (j - 1)) (at j) ≡ true → disordered at (j + 1) ≡ false
-  unfolding disordered
-  ordered_next d k =
+one_number : (x y : ℕ) (b : Bool) → (ltb x y || (eqb x y && b)) ≡ cond (eqb x y) b (ltb x y)
+one_number x y b = go (ℕ_discrete x y)
+  where
+    go : Dec (x ≡ y) → (ltb x y || (eqb x y && b)) ≡ cond (eqb x y) b (ltb x y)
+    go (yes e) = let l : y ≤ x = omega arith in rw (eq-eqb x y e, le-ltb x y l) refl
+    go (no n) = rw (ne_eqb x y n) (or_none (ltb x y))
+
+pub precedes_flat :
+    (a b : Move) → (ltb a.from b.from || (eqb a.from b.from && (ltb a.event b.event || (eqb a.event b.event && ltb a.to b.to)))) ≡ precedes a b
+unfolding precedes
+precedes_flat a b =
+    one_number a.from b.from _ ∙
+    ap (λ (c : Bool). cond (eqb a.from b.from) c (ltb a.from b.from)) (one_number a.event b.event (ltb a.to b.to))
+
+-- 6 of one move more, v: last is the move before it, if there is one
+module _ (at : ℕ → Move) where
+  step : (j : ℕ) (last : Move) → ((i : ℕ) → i + 1 ≡ j → last ≡ at i) →
+      (disordered at j || (ltb 0 j && not (precedes last (at j)))) ≡ disordered at (j + 1)
+  unfolding disordered some
+  step zero last h = refl
+  step (suc j) last h =
       let f : ℕ → Bool = λ i. not (precedes (at i) (at (i + 1))) in
-      let e : j + 1 - 1 ≡ j - 1 + 1 = omega arith in
-      ap (some f) e ∙ some_next f (j - 1) d (pair true k)
+      let a : suc j - 1 ≡ j = omega arith in
+      let b : suc j ≡ suc j + 1 - 1 = omega arith in
+      let one : (ltb 0 (suc j) && not (precedes last (at (suc j)))) ≡ f j =
+      rw (lt-ltb 0 (suc j) (omega arith), h j (add-one j), add-one j) refl in
+      ap₂ ◌||◌ (ap (some f) a) one ∙ ap (some f) b
 
-  pub swapped : (m : ℕ) → j < m → precedes (at (j - 1)) (at j) ≡ false → disordered at m ≡ true
-  unfolding disordered
-  swapped m l k = some_here (λ i. not (precedes (at i) (at (i + 1)))) (m - 1) (j - 1) (omega arith) (pair false k)
+  pub disordered_next :
+      (j : ℕ) {d r : Bool} {last v : Move} → d ≡ disordered at j → v ≡ at j → ((i : ℕ) → i + 1 ≡ j → last ≡ at i) →
+      r ≡ (d || (ltb 0 j && not (precedes last v))) → r ≡ disordered at (j + 1)
+  disordered_next j {last = last} e p h k =
+      k ∙ ap₂ (λ (x : Bool) (w : Move). x || (ltb 0 j && not (precedes last w))) e p ∙ step j last h
 
 pub before_test : {a b : Move} → Before a b → precedes a b ≡ true
 before_test {a} {b} (by_from h) = sym (precedes_from a b (λ e. omega arith)) ∙ lt-ltb _ _ h

@@ -1,7 +1,7 @@
 -- Laws of "or" and `some`: what holds of none.
 use Prim.Native.Nat.{ℕ, zero, suc, ◌<◌, ◌≤◌, ◌+◌}
 use mathlib.Core.Bool.{Bool, true, false, ◌||◌}
-use mathlib.Core.Path.{◌≡◌, refl, sym, ap, ◌∙◌}
+use mathlib.Core.Path.{◌≡◌, refl, sym, ap, ap₂, ◌∙◌}
 use mathlib.Core.Logic.{⊎_elim}
 use native.Mathlib.Omega.{arith}
 use native.Mathlib.Numerals.{add-one}
@@ -38,6 +38,11 @@ some_here f zero i l h = absurd (omega arith)
 some_here f (suc n) i l h =
     let le : i ≤ n = omega arith in
     ⊎_elim (λ e. or-true (some f n) (f n) (ap f (sym e) ∙ h)) (λ k. simp (some_here f n i k h)) (eq-or-lt_of_le le)
+
+-- one number more
+pub some_more : (f : ℕ → Bool) (n : ℕ) {d t r : Bool} → d ≡ some f n → t ≡ f n → r ≡ (d || t) → r ≡ some f (n + 1)
+unfolding some
+some_more f n e h k = rw add-one (k ∙ ap₂ ◌||◌ e h)
 
 -- one number more, of which it does not hold
 pub some_next : (f : ℕ → Bool) (n : ℕ) → some f n ≡ false → f n ≡ false → some f (n + 1) ≡ false
