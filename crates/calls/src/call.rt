@@ -19,6 +19,9 @@ const TRACE: usize = 16_384;
 // The most numbers of a list.
 const LIST: usize = 12_300;
 
+// The most fields that a call has, its word among them.
+const FIELDS: usize = 8;
+
 type Reply = Result<String, LineError>;
 
 fn read(alloc: Global, table: &[u8], list: &[u8]) -> Reply {
@@ -84,7 +87,8 @@ pub fn answer(alloc: Global, line: &[u8]) -> Reply {
     if line.len() >= TOO_LONG {
         return Err(LineError::Bad);
     }
-    let fields: Vec<&[u8]> = line.split(|b| *b == b' ').collect(alloc)?;
+    // one field more than any call has is enough to see that a line has too many, however many it has
+    let fields: Vec<&[u8]> = line.split(|b| *b == b' ').take(FIELDS + 1).collect(alloc)?;
     match fields.as_slice() {
         [b"read", table, list] => read(alloc, table, list),
         [b"write", n, e, start, list, out] => {

@@ -1,5 +1,5 @@
 // What a field stands for. A field that is not of its kind, or out of its bounds, makes the line bad.
-ghost use Rattle.std.specs.Prelude.{◌<◌, IfOk};
+ghost use Rattle.std.specs.Prelude.{◌<◌, ◌≤◌, IfOk};
 
 use std::alloc::{AllocError, Global};
 use std::str;
@@ -32,7 +32,9 @@ where
 }
 
 // The length of a workspace, at most `most`.
-pub fn length(field: &[u8], most: usize) -> Result<usize, LineError> {
+pub fn length(field: &[u8], most: usize) -> Result<usize, LineError>
+    ensures { IfOk result (λ n. n ≤ most) }
+{
     let n = number(field)?;
     if n > most {
         return Err(LineError::Bad);

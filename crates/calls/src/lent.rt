@@ -1,19 +1,76 @@
 // The buffers that a call is lent, and how bytes and lists are printed.
+ghost use Rattle.std.specs.Prelude.{◌<◌, ◌≤◌};
+
 use std::alloc::AllocError;
-use std::fmt;
-use std::fmt::{Formatter, Radix, Write};
+use std::fmt::{Formatter, Write};
+use std::{fmt, str};
+
+// A digit, as its letter.
+fn letter(digit: u8) -> u8
+    requires { digit < 16 }
+    ensures { result < 128 }
+{
+    if digit < 10 {
+        b'0' + digit
+    } else {
+        b'a' + (digit - 10)
+    }
+}
+
+// Letters on their way, written 64 at once: a buffer has tens of thousands of digits, and each call of the writer has its price.
+#[derive(Drop)]
+pub struct Letters {
+    room: [u8; 64],
+    at: usize,
+    ghost two_fit: { at < 63 },
+}
+
+impl Letters {
+    fn none() -> Letters {
+        Letters {
+            room: [0; 64],
+            at: 0,
+        }
+    }
+
+    // Writes the first `count`, which then are gone.
+    fn write<W: Write>(&mut self, f: &mut Formatter<W>, count: usize) -> fmt::Result
+        requires { count ≤ 64 }
+    {
+        self.at = 0;
+        f.write_str(str::from_utf8(&self.room[..count]).map_err(|_| fmt::Error)?)
+    }
+
+    // The two digits of a byte.
+    fn put<W: Write>(&mut self, f: &mut Formatter<W>, byte: u8) -> fmt::Result {
+        let at = self.at;
+        self.room[at] = letter(byte / 16);
+        self.room[at + 1] = letter(byte % 16);
+        if at > 60 {
+            return self.write(f, at + 2);
+        }
+        self.at = at + 2;
+        Ok(())
+    }
+}
 
 // A number that takes a fixed count of digits.
-pub trait Spelled: Copy + PartialEq + Radix {
-    const DIGITS: usize;
+pub trait Spelled: Copy + PartialEq {
+    fn spell<W: Write>(self, letters: &mut Letters, f: &mut Formatter<W>) -> fmt::Result;
 }
 
 impl Spelled for u8 {
-    const DIGITS: usize = 2;
+    fn spell<W: Write>(self, letters: &mut Letters, f: &mut Formatter<W>) -> fmt::Result {
+        letters.put(f, self)
+    }
 }
 
 impl Spelled for u16 {
-    const DIGITS: usize = 4;
+    fn spell<W: Write>(self, letters: &mut Letters, f: &mut Formatter<W>) -> fmt::Result {
+        let [high, low] = self.to_be_bytes();
+        letters.put(f, high)?;
+        letters.put(f, low)
+    }
 }
 
 // The digits of bytes, two each, or of 16-bit numbers, four each; `-` for none.
@@ -25,11 +82,12 @@ impl<'a, N: Spelled> fmt::Display for Digits<'a, N> {
         if self.0.is_empty() {
             return write!(f, "-");
         }
-        let width = N::DIGITS;
+        let mut letters = Letters::none();
         for n in self.0 {
-            write!(f, "{n:0width$x}")?;
+            n.spell(&mut letters, f)?;
         }
-        Ok(())
+        let left = letters.at;
+        letters.write(f, left)
     }
 }
 

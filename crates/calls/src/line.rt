@@ -1,4 +1,6 @@
 // The lines of the input, each answered as it ends.
+ghost use Rattle.std.specs.Prelude.{◌≤◌, vec_len};
+
 use crate::call;
 use crate::call::TOO_LONG;
 use crate::field::LineError;
@@ -17,7 +19,9 @@ pub fn respond(rt: &impl Print, alloc: Global, line: &[u8]) -> Result<(), AllocE
 }
 
 // Adds to a line. What is longer than a line can be is left out, and then too long all the same.
-fn extend(line: &mut Vec<u8>, piece: &[u8]) -> Result<(), AllocError> {
+fn extend(line: &mut Vec<u8>, piece: &[u8]) -> Result<(), AllocError>
+    ensures { vec_len line.old ≤ 100000 → vec_len line.new ≤ 100000 }
+{
     let room = TOO_LONG.saturating_sub(line.len());
     line.extend_from_slice(&piece[..room.min(piece.len())])
 }
