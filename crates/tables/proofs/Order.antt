@@ -1,5 +1,5 @@
 -- The order of moves, and lists of moves that stand ascending: what stands in them determines them.
-use Prim.Native.Nat.{ℕ, zero, suc, ◌<◌, ◌≤◌, ◌+◌, ◌-◌}
+use Prim.Native.Nat.{ℕ, zero, suc, ◌<◌, ◌≤◌, ◌+◌, ◌*◌, ◌^◌, ◌%◌, ◌-◌}
 use mathlib.Core.Bool.{Bool, true, false, cond, not, ◌&&◌, ◌||◌}
 use mathlib.Core.Path.{◌≡◌, refl, sym, ap, ap₂, ◌∙◌, subst}
 use mathlib.Core.Logic.{◌⊎◌, inl, inr, ⊎_elim}
@@ -7,9 +7,12 @@ use mathlib.Core.List.Memᴰ
 use mathlib.Core.List.{List, [], ◌∷◌, ◌++◌, Memᴰ}
 use native.Mathlib.Omega.{arith}
 use native.Mathlib.Numerals.{add-one}
-use native.Mathlib.Nat.{eq-or-lt_of_le}
+use native.Mathlib.Nat.{eq-or-lt_of_le, mod-eq_of_lt}
 use native.Mathlib.Decide.{ℕ_discrete}
 use lib.Dec.{eqb, ltb}
+use mir.Val.{bool_byte}
+use Rattle.std.specs.Bool.{FalseIff}
+use Rattle.std.proofs.lemmas.Bool.{ltb_from_iff}
 use borrow.Author.Tests.{ltb-true, eqb-true, not-false, lt-ltb, le-ltb, eq-eqb, ne_eqb}
 use Rattle.csp.specs.Table.{Move}
 use Rattle.tables.specs.Valid.{precedes, disordered}
@@ -48,24 +51,38 @@ pub precedes_to : (a b : Move) → a.from ≡ b.from → a.event ≡ b.event →
 unfolding precedes
 precedes_to a b e f = rw (eq-eqb a.from b.from e, eq-eqb a.event b.event f) refl
 
--- the same without a choice: a later number counts where the earlier ones are equal
-or_none : (b : Bool) → (b || false) ≡ b
-or_none true = refl
-or_none false = refl
+-- two tests that hold together are one
+same_test : {x y u v : ℕ} → (x < y → u < v) → (u < v → x < y) → ltb x y ≡ ltb u v
+same_test f g = ltb_from_iff (λ h. f (ltb-true _ _ h), λ l. lt-ltb _ _ (g l))
 
-one_number : (x y : ℕ) (b : Bool) → (ltb x y || (eqb x y && b)) ≡ cond (eqb x y) b (ltb x y)
-one_number x y b = go (ℕ_discrete x y)
+-- a carry is 0 or 1, and a number is below itself with the carry just where that is 1
+carry_least : (b : Bool) → bool_byte b ≤ 1
+carry_least true = omega arith
+carry_least false = omega arith
+
+carry_alone : (x : ℕ) (b : Bool) → ltb x (x + bool_byte b) ≡ b
+carry_alone x true = lt-ltb x (x + 1) (omega arith)
+carry_alone x false = le-ltb x (x + 0) (omega arith)
+
+-- the order as a sum: from and event are one number, and what to says is a carry on it
+pub precedes_carried :
+    (a b : Move) → a.event < 2 ^ 64 → b.event < 2 ^ 64 →
+    ltb (a.from * 2 ^ 64 + a.event) (b.from * 2 ^ 64 + b.event + bool_byte (ltb a.to b.to)) ≡ precedes a b
+precedes_carried a b h k = go (ℕ_discrete a.from b.from) (ℕ_discrete a.event b.event)
   where
-    go : Dec (x ≡ y) → (ltb x y || (eqb x y && b)) ≡ cond (eqb x y) b (ltb x y)
-    go (yes e) = let l : y ≤ x = omega arith in rw (eq-eqb x y e, le-ltb x y l) refl
-    go (no n) = rw (ne_eqb x y n) (or_none (ltb x y))
+    c : bool_byte (ltb a.to b.to) ≤ 1
+    c = carry_least (ltb a.to b.to)
 
-pub precedes_flat :
-    (a b : Move) → (ltb a.from b.from || (eqb a.from b.from && (ltb a.event b.event || (eqb a.event b.event && ltb a.to b.to)))) ≡ precedes a b
-unfolding precedes
-precedes_flat a b =
-    one_number a.from b.from _ ∙
-    ap (λ (c : Bool). cond (eqb a.from b.from) c (ltb a.from b.from)) (one_number a.event b.event (ltb a.to b.to))
+    go : Dec (a.from ≡ b.from) → Dec (a.event ≡ b.event) →
+        ltb (a.from * 2 ^ 64 + a.event) (b.from * 2 ^ 64 + b.event + bool_byte (ltb a.to b.to)) ≡ precedes a b
+    go (no n) d = same_test (λ l. omega (arith, c)) (λ l. omega (arith, c)) ∙ precedes_from a b n
+    go (yes e) (no n) = same_test (λ l. omega (arith, c)) (λ l. omega (arith, c)) ∙ precedes_event a b e n
+    go (yes e) (yes f) = rw (e, f) (carry_alone _ (ltb a.to b.to)) ∙ precedes_to a b e f
+
+-- a sum past what the code counts is past each number that it counts
+pub wrapped_or_below : {M x r : ℕ} (b : Bool) (s : ℕ) → x < M → FalseIff b (s < M) → r ≡ s % M → (b || ltb x r) ≡ ltb x s
+wrapped_or_below {x = x} true s h o e = sym (lt-ltb x s (omega arith))
+wrapped_or_below {x = x} false s h o e = ap (ltb x) (e ∙ mod-eq_of_lt o)
 
 -- 6 of one move more, v: last is the move before it, if there is one
 module _ (at : ℕ → Move) where

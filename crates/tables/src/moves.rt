@@ -1,5 +1,5 @@
 // Moves, and the tests 4 to 7 of a row of them.
-ghost use Rattle.std.specs.Prelude.{◌≡◌, ℕ, not, ◌&&◌, ◌||◌, ◌+◌, ◌*◌, ◌<◌, length, ltb};
+ghost use Rattle.std.specs.Prelude.{◌≡◌, ℕ, not, ◌&&◌, ◌||◌, ◌+◌, ◌*◌, ◌^◌, ◌<◌, length, ltb};
 ghost use Rattle.csp.specs.Table.{Move as Meant};
 ghost use Rattle.tables.specs.Moves.{meant, move_at};
 ghost use Rattle.tables.specs.Valid.{misnames, precedes, circles, later_tests};
@@ -23,13 +23,20 @@ impl Move {
         self.from >= n || self.event > e || self.to >= n
     }
 
-    // Whether it comes before v: by from, then event, then to. By hand and without a branch, since which number decides changes from
-    // move to move: with the derived order, which says the same, the pass of `test` took up to half as long again.
+    // From and event as one number, which orders moves by both.
+    fn lead(self) -> u128
+        ensures { result ≡ self.from * 2 ^ 64 + self.event }
+    {
+        ((self.from as u128) << 64) + self.event as u128
+    }
+
+    // Whether it comes before v: by from, then event, then to. By hand and without a jump, since which number decides changes from
+    // move to move: from and event are one number, and what to says is a carry on it.
     fn precedes(self, v: Move) -> bool
         ensures { result ≡ precedes (meant self) (meant v) }
     {
-        let later = (self.event < v.event) | ((self.event == v.event) & (self.to < v.to));
-        (self.from < v.from) | ((self.from == v.from) & later)
+        let (bound, wrapped) = v.lead().overflowing_add(u128::from(self.to < v.to));
+        wrapped | (self.lead() < bound)
     }
 
     // Whether it is silent and leads from a state to itself.
