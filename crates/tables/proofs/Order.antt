@@ -15,7 +15,7 @@ use Rattle.std.specs.Bool.{FalseIff}
 use Rattle.std.proofs.lemmas.Bool.{ltb_from_iff}
 use borrow.Author.Tests.{ltb-true, eqb-true, not-false, lt-ltb, le-ltb, eq-eqb, ne_eqb}
 use Rattle.csp.specs.Table.{Move}
-use Rattle.tables.specs.Valid.{precedes, circles, disordered}
+use Rattle.tables.specs.Valid.{precedes, disordered}
 use Rattle.tables.specs.Order.{Before, by_from, by_event, by_to, Ascending, none, more}
 use Rattle.tables.specs.Bytes.{row}
 use Rattle.tables.specs.Tests.{some}
@@ -51,14 +51,14 @@ pub precedes_to : (a b : Move) → a.from ≡ b.from → a.event ≡ b.event →
 unfolding precedes
 precedes_to a b e f = rw (eq-eqb a.from b.from e, eq-eqb a.event b.event f) refl
 
--- two tests of which each holds where the other does are equal
+-- two tests that hold together are one
 same_test : {x y u v : ℕ} → (x < y → u < v) → (u < v → x < y) → ltb x y ≡ ltb u v
 same_test f g = ltb_from_iff (λ h. f (ltb-true _ _ h), λ l. lt-ltb _ _ (g l))
 
 -- a carry is 0 or 1, and a number is below itself with the carry just where that is 1
-carry_most : (b : Bool) → bool_byte b ≤ 1
-carry_most true = omega arith
-carry_most false = omega arith
+carry_least : (b : Bool) → bool_byte b ≤ 1
+carry_least true = omega arith
+carry_least false = omega arith
 
 carry_alone : (x : ℕ) (b : Bool) → ltb x (x + bool_byte b) ≡ b
 carry_alone x true = lt-ltb x (x + 1) (omega arith)
@@ -71,7 +71,7 @@ pub precedes_carried :
 precedes_carried a b h k = go (ℕ_discrete a.from b.from) (ℕ_discrete a.event b.event)
   where
     c : bool_byte (ltb a.to b.to) ≤ 1
-    c = carry_most (ltb a.to b.to)
+    c = carry_least (ltb a.to b.to)
 
     go : Dec (a.from ≡ b.from) → Dec (a.event ≡ b.event) →
         ltb (a.from * 2 ^ 64 + a.event) (b.from * 2 ^ 64 + b.event + bool_byte (ltb a.to b.to)) ≡ precedes a b
@@ -79,20 +79,10 @@ precedes_carried a b h k = go (ℕ_discrete a.from b.from) (ℕ_discrete a.event
     go (yes e) (no n) = same_test (λ l. omega (arith, c)) (λ l. omega (arith, c)) ∙ precedes_event a b e n
     go (yes e) (yes f) = rw (e, f) (carry_alone _ (ltb a.to b.to)) ∙ precedes_to a b e f
 
--- a sum past what the code counts is past each number that it counts, and another sum is counted as it is
+-- a sum past what the code counts is past each number that it counts
 pub wrapped_or_below : {M x r : ℕ} (b : Bool) (s : ℕ) → x < M → FalseIff b (s < M) → r ≡ s % M → (b || ltb x r) ≡ ltb x s
 wrapped_or_below {x = x} true s h o e = sym (lt-ltb x s (omega arith))
 wrapped_or_below {x = x} false s h o e = ap (ltb x) (e ∙ mod-eq_of_lt o)
-
--- a silent move from a state to itself: its lead is that of a silent move from its to
-pub circles_by_lead : (v : Move) → v.event < 2 ^ 64 → eqb (v.from * 2 ^ 64 + v.event) (v.to * 2 ^ 64) ≡ circles v
-unfolding circles
-circles_by_lead v h = go (ℕ_discrete v.event 0) (ℕ_discrete v.from v.to)
-  where
-    go : Dec (v.event ≡ 0) → Dec (v.from ≡ v.to) → eqb (v.from * 2 ^ 64 + v.event) (v.to * 2 ^ 64) ≡ (eqb v.event 0 && eqb v.from v.to)
-    go (yes e) (yes f) = rw (eq-eqb _ _ e, eq-eqb _ _ f) (eq-eqb _ _ (omega arith))
-    go (yes e) (no n) = rw (eq-eqb _ _ e, ne_eqb _ _ n) (ne_eqb _ _ (λ x. n (omega arith)))
-    go (no n) d = rw (ne_eqb _ _ n) (ne_eqb _ _ (λ x. n (omega arith)))
 
 -- 6 of one move more, v: last is the move before it, if there is one
 module _ (at : ℕ → Move) where

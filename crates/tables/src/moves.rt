@@ -23,16 +23,15 @@ impl Move {
         self.from >= n || self.event > e || self.to >= n
     }
 
-    // From and event as one number, which orders moves by from, then by event.
+    // From and event as one number, which orders moves by both.
     fn lead(self) -> u128
         ensures { result ≡ self.from * 2 ^ 64 + self.event }
     {
         ((self.from as u128) << 64) + self.event as u128
     }
 
-    // Whether it comes before v: by from, then event, then to. That is whether its lead is below v's, or equal to v's with a lower `to`:
-    // this last test is added to v's lead, so that one comparison does. By hand and without a jump, since which number decides changes
-    // from move to move, and a jump on it would often be guessed wrong. A sum that wraps is past every lead.
+    // Whether it comes before v: by from, then event, then to. By hand and without a jump, since which number decides changes from
+    // move to move: from and event are one number, and what to says is a carry on it.
     fn precedes(self, v: Move) -> bool
         ensures { result ≡ precedes (meant self) (meant v) }
     {
@@ -40,11 +39,12 @@ impl Move {
         wrapped | (self.lead() < bound)
     }
 
-    // Whether it is silent and leads from a state to itself: its lead is then that of a silent move from `to`.
+    // Whether it is silent and leads from a state to itself.
+    #[tactic(auto, unfolding(crate::specs::Valid::circles))]
     fn circles(self) -> bool
         ensures { result ≡ circles (meant self) }
     {
-        self.lead() == (self.to as u128) << 64
+        self.event == 0 && self.from == self.to
     }
 }
 
@@ -71,8 +71,8 @@ pub struct Found {
 }
 
 impl Found {
-    // Looks at move j besides; the first has none before it. 6 and 7 are tried of each move, whatever the others say, so that the loop
-    // has few jumps.
+    // Looks at move j besides; the first has none before it. Each test is tried of each move, whatever the others say, so that the
+    // loop has few branches.
     fn look(self, j: usize, v: Move, n: usize, e: usize) -> Found
         ensures misnamed { result.misnamed ≡ (self.misnamed || misnames n e (meant v)) }
         ensures disordered { result.disordered
@@ -90,9 +90,7 @@ impl Found {
 }
 
 // The first of 4 to 7 that applies to m moves, each over all of them before the next; `at` says which move is move j. One pass reads
-// each move once, since every call that takes a table pays for it. It stays out of line: drawn into its callers, where n and e are
-// known to fit 16 bits, it would compare in 16 bits and widen each number again.
-#[inline(never)]
+// each move once, since every call that takes a table pays for it.
 pub fn test<F: Fn(usize) -> Move>(n: usize, e: usize, start: usize, m: usize, at: F) -> Option<u8>
     ghost moves: { ℕ → Meant }
     requires there { (j : ℕ) → j < m → F.pre at j }
