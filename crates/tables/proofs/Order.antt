@@ -51,14 +51,14 @@ pub precedes_to : (a b : Move) → a.from ≡ b.from → a.event ≡ b.event →
 unfolding precedes
 precedes_to a b e f = rw (eq-eqb a.from b.from e, eq-eqb a.event b.event f) refl
 
--- two tests that hold together are one
+-- two tests of which each holds where the other does are equal
 same_test : {x y u v : ℕ} → (x < y → u < v) → (u < v → x < y) → ltb x y ≡ ltb u v
 same_test f g = ltb_from_iff (λ h. f (ltb-true _ _ h), λ l. lt-ltb _ _ (g l))
 
 -- a carry is 0 or 1, and a number is below itself with the carry just where that is 1
-carry_least : (b : Bool) → bool_byte b ≤ 1
-carry_least true = omega arith
-carry_least false = omega arith
+carry_most : (b : Bool) → bool_byte b ≤ 1
+carry_most true = omega arith
+carry_most false = omega arith
 
 carry_alone : (x : ℕ) (b : Bool) → ltb x (x + bool_byte b) ≡ b
 carry_alone x true = lt-ltb x (x + 1) (omega arith)
@@ -71,7 +71,7 @@ pub precedes_carried :
 precedes_carried a b h k = go (ℕ_discrete a.from b.from) (ℕ_discrete a.event b.event)
   where
     c : bool_byte (ltb a.to b.to) ≤ 1
-    c = carry_least (ltb a.to b.to)
+    c = carry_most (ltb a.to b.to)
 
     go : Dec (a.from ≡ b.from) → Dec (a.event ≡ b.event) →
         ltb (a.from * 2 ^ 64 + a.event) (b.from * 2 ^ 64 + b.event + bool_byte (ltb a.to b.to)) ≡ precedes a b
@@ -79,7 +79,7 @@ precedes_carried a b h k = go (ℕ_discrete a.from b.from) (ℕ_discrete a.event
     go (yes e) (no n) = same_test (λ l. omega (arith, c)) (λ l. omega (arith, c)) ∙ precedes_event a b e n
     go (yes e) (yes f) = rw (e, f) (carry_alone _ (ltb a.to b.to)) ∙ precedes_to a b e f
 
--- a sum past what the code counts is past each number that it counts
+-- a sum past what the code counts is past each number that it counts, and any other is counted as it is
 pub wrapped_or_below : {M x r : ℕ} (b : Bool) (s : ℕ) → x < M → FalseIff b (s < M) → r ≡ s % M → (b || ltb x r) ≡ ltb x s
 wrapped_or_below {x = x} true s h o e = sym (lt-ltb x s (omega arith))
 wrapped_or_below {x = x} false s h o e = ap (ltb x) (e ∙ mod-eq_of_lt o)

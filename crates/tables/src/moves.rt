@@ -23,15 +23,16 @@ impl Move {
         self.from >= n || self.event > e || self.to >= n
     }
 
-    // From and event as one number, which orders moves by both.
+    // From and event as one number, so that one comparison orders by from, then by event.
     fn lead(self) -> u128
         ensures { result ≡ self.from * 2 ^ 64 + self.event }
     {
         ((self.from as u128) << 64) + self.event as u128
     }
 
-    // Whether it comes before v: by from, then event, then to. By hand and without a jump, since which number decides changes from
-    // move to move: from and event are one number, and what to says is a carry on it.
+    // Whether it comes before v: by from, then event, then to. By hand and without a jump: which of the three decides changes from
+    // move to move, so a jump on it is often guessed wrong. Where `to` is lower, v's lead is raised by one, and then it is above an
+    // equal lead too; a raise that wraps is above every lead.
     fn precedes(self, v: Move) -> bool
         ensures { result ≡ precedes (meant self) (meant v) }
     {
